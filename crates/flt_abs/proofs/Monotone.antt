@@ -33,6 +33,7 @@ use Rattle.flt_tree.specs.declared.variable.ContextVariable.{ContextVariable}
 use Rattle.flt_tree.specs.declared.variable.OperationVariable.{OperationVariable}
 use Rattle.flt_tree.specs.declared.variable.OperationVariable.TheVariants.{Removed, Data}
 use Rattle.flt_graph.specs.Graph.{instruction_at}
+use Rattle.flt_graph.specs.Instruction.{roles}
 use Rattle.flt_graph.specs.declared.graph.Graph.{Graph}
 use Rattle.flt_graph.specs.declared.instruction.Instruction.{Instruction}
 use Rattle.flt_graph.specs.declared.instruction.Instruction.TheVariants as instruction
@@ -329,7 +330,7 @@ grows-return s x y st r b p = λ e. e
 grows-breaks : (s : Setting) (x y : State) (i : Instruction) (r : Rule) → Below x y → Proper x → breaks s x i r ≡ true →
     breaks s y i r ≡ true
 grows-breaks s x y (instruction.Act a next) r b p = grows-action x y a r b p
-grows-breaks s x y (instruction.Call c granted failed) r b p = grows-row (row c.call) s x y c r b p
+grows-breaks s x y (instruction.Call c granted failed) r b p = grows-row (row (roles c).call) s x y (roles c) r b p
 grows-breaks s x y (instruction.Test t granted failed) r b p = grows-test s x y t r b p
 grows-breaks s x y (instruction.Repeat turns body next) r b p = λ e. e
 grows-breaks s x y (instruction.Return st) r b p = grows-return s x y st r b p
@@ -483,8 +484,8 @@ below-leads_to : (x y : State) (i : Instruction) → Below x y → AreBelow (lea
 below-leads_to x y (instruction.Act a next) b = record { first = (refl, from_below _ _ (below-after_action x y a b)); second = tt }
 below-leads_to x y (instruction.Call c granted failed) b =
     record {
-      first = (refl, from_below _ _ (below-after_call x y c (row c.call).on_ok b));
-      second = below-after_failure x y c (row c.call).on_fail failed b;
+      first = (refl, from_below _ _ (below-after_call x y (roles c) (row (roles c).call).on_ok b));
+      second = below-after_failure x y (roles c) (row (roles c).call).on_fail failed b;
     }
 below-leads_to x y (instruction.Test t yes' no') b =
     record { first = below-where_true yes' x y t b; second = below-where_false no' x y t b }

@@ -22,6 +22,7 @@ use Rattle.flt_tree.specs.declared.variable.ContextVariable.{ContextVariable}
 use Rattle.flt_tree.specs.declared.variable.OperationVariable.{OperationVariable}
 use Rattle.flt_tree.specs.declared.variable.OperationVariable.TheVariants.{Removed}
 use Rattle.flt_graph.specs.Graph.{instruction_at}
+use Rattle.flt_graph.specs.Instruction.{roles}
 use Rattle.flt_graph.specs.Points.{successor}
 use Rattle.flt_graph.specs.declared.graph.Graph.{Graph}
 use Rattle.flt_graph.specs.declared.instruction.Instruction.{Instruction}
@@ -304,8 +305,9 @@ pub leads : (i : Instruction) (x : State) (t : Situation) (outcome gives : Bool)
     Reaches (side (leads_to x i) outcome) (successor i outcome) (leaves i outcome gives t)
 leads (instruction.Act a next) x t true gives m h = (refl, acted_means a x t m)
 leads (instruction.Act a next) x t false gives m h = cc
-leads (instruction.Call c granted refused) x t true gives m h = (refl, called_means c (row c.call).on_ok gives x t m)
-leads (instruction.Call c granted refused) x t false gives m h = failure_reaches c (row c.call).on_fail refused gives x t m h
+leads (instruction.Call c granted refused) x t true gives m h = (refl, called_means (roles c) (row (roles c).call).on_ok gives x t m)
+leads (instruction.Call c granted refused) x t false gives m h =
+    failure_reaches (roles c) (row (roles c).call).on_fail refused gives x t m h
 leads (instruction.Test f granted refused) x t true gives m h = true_reaches f x granted t m h
 leads (instruction.Test f granted refused) x t false gives m h = false_reaches f x refused t m h
 leads (instruction.Repeat turns block next) x t true gives m h = (refl, m)

@@ -23,6 +23,7 @@ use Rattle.flt_tree.specs.declared.variable.ContextVariable.{ContextVariable}
 use Rattle.flt_tree.specs.declared.variable.OperationVariable.{OperationVariable}
 use Rattle.flt_tree.specs.declared.variable.OperationVariable.TheVariants.{Removed}
 use Rattle.flt_graph.specs.Graph.{instruction_at}
+use Rattle.flt_graph.specs.Instruction.{roles}
 use Rattle.flt_graph.specs.declared.graph.Graph.{Graph}
 use Rattle.flt_graph.specs.declared.instruction.Instruction.{Instruction}
 use Rattle.flt_graph.specs.declared.instruction.Instruction.TheVariants as instruction
@@ -173,7 +174,10 @@ proper-after_failure x c None p h = tt
 proper-leads_to : (x : State) (i : Instruction) → is_proper x ≡ true → AreProper (leads_to x i)
 proper-leads_to x (instruction.Act a next) h = record { first = proper-after_action x a h; second = tt }
 proper-leads_to x (instruction.Call c granted failed) h =
-    record { first = proper-after_call x c (row c.call).on_ok h; second = proper-after_failure x c (row c.call).on_fail failed h }
+    record {
+      first = proper-after_call x (roles c) (row (roles c).call).on_ok h;
+      second = proper-after_failure x (roles c) (row (roles c).call).on_fail failed h;
+    }
 proper-leads_to x (instruction.Test t granted refused) h =
     record { first = proper-where_true granted x t h; second = proper-where_false refused x t h }
 proper-leads_to x (instruction.Repeat turns body next) h = record { first = h; second = h }

@@ -35,6 +35,7 @@ use Rattle.flt_tree.specs.declared.filter.Test.TheVariants as test
 use Rattle.flt_tree.specs.declared.variable.ContextVariable.{ContextVariable}
 use Rattle.flt_tree.specs.declared.variable.OperationVariable.{OperationVariable}
 use Rattle.flt_tree.specs.declared.variable.OperationVariable.TheVariants.{Removed, Data}
+use Rattle.flt_graph.specs.Instruction.{roles}
 use Rattle.flt_graph.specs.declared.instruction.Instruction.{Instruction}
 use Rattle.flt_graph.specs.declared.instruction.Instruction.TheVariants as instruction
 use Rattle.flt_graph.specs.declared.instruction.Invocation.{Invocation}
@@ -222,7 +223,7 @@ return_breaks s x st _ = false
 
 abbrev pub breaks : Setting → State → Instruction → Rule → Bool
 breaks s x (instruction.Act a next) r = action_breaks x a r
-breaks s x (instruction.Call c granted failed) r = call_breaks s x c r
+breaks s x (instruction.Call c granted failed) r = call_breaks s x (roles c) r
 breaks s x (instruction.Test t granted failed) r = test_breaks s x t r
 breaks s x (instruction.Repeat turns body next) r = false
 breaks s x (instruction.Return st) r = return_breaks s x st r

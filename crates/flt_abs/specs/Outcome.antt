@@ -16,6 +16,7 @@ use Rattle.flt_tree.specs.declared.filter.Test.TheVariants as test
 use Rattle.flt_tree.specs.declared.variable.ContextVariable.{ContextVariable}
 use Rattle.flt_tree.specs.declared.variable.OperationVariable.{OperationVariable}
 use Rattle.flt_tree.specs.declared.variable.OperationVariable.TheVariants.{Removed}
+use Rattle.flt_graph.specs.Instruction.{roles}
 use Rattle.flt_graph.specs.declared.instruction.Instruction.{Instruction}
 use Rattle.flt_graph.specs.declared.instruction.Instruction.TheVariants as instruction
 use Rattle.flt_graph.specs.declared.instruction.Invocation.{Invocation}
@@ -107,7 +108,7 @@ may_find _ t outcome = true
 abbrev pub may_come_out : Instruction → Situation → Bool → Bool
 may_come_out (instruction.Act a next) t outcome = outcome
 may_come_out (instruction.Call c granted refused) t true = true
-may_come_out (instruction.Call c granted refused) t false = can_fail (row c.call).on_fail
+may_come_out (instruction.Call c granted refused) t false = can_fail (row (roles c).call).on_fail
 may_come_out (instruction.Test test granted refused) t outcome = may_find test t outcome
 may_come_out (instruction.Repeat turns block next) t outcome = true
 may_come_out (instruction.Return status) t outcome = false
@@ -116,8 +117,8 @@ may_come_out instruction.End t outcome = false
 -- the situation that an instruction leaves
 abbrev pub leaves : Instruction → Bool → Bool → Situation → Situation
 leaves (instruction.Act a next) outcome gives t = acted a t
-leaves (instruction.Call c granted refused) true gives t = called c (row c.call).on_ok gives t
-leaves (instruction.Call c granted refused) false gives t = failed c (row c.call).on_fail gives t
+leaves (instruction.Call c granted refused) true gives t = called (roles c) (row (roles c).call).on_ok gives t
+leaves (instruction.Call c granted refused) false gives t = failed (roles c) (row (roles c).call).on_fail gives t
 leaves _ outcome gives t = t
 
 -- the successor by an outcome

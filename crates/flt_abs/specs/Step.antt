@@ -18,6 +18,7 @@ use Rattle.flt_tree.specs.declared.variable.ContextVariable.{ContextVariable}
 use Rattle.flt_tree.specs.declared.variable.OperationVariable.{OperationVariable}
 use Rattle.flt_tree.specs.declared.variable.OperationVariable.TheVariants.{Removed}
 use Rattle.flt_graph.specs.Graph.{instruction_at}
+use Rattle.flt_graph.specs.Instruction.{roles}
 use Rattle.flt_graph.specs.declared.graph.Graph.{Graph}
 use Rattle.flt_graph.specs.declared.instruction.Instruction.{Instruction}
 use Rattle.flt_graph.specs.declared.instruction.Instruction.TheVariants as instruction
@@ -122,7 +123,7 @@ call_successors x c granted failed = record {
 
 abbrev pub leads_to : State → Instruction → Successors
 leads_to x (instruction.Act a next) = record { first = at next (Some (after_action x a)); second = None }
-leads_to x (instruction.Call c granted failed) = call_successors x c granted failed
+leads_to x (instruction.Call c granted failed) = call_successors x (roles c) granted failed
 leads_to x (instruction.Test t yes' no') = record { first = at yes' (where_true x t); second = at no' (where_false x t) }
 leads_to x (instruction.Repeat turns body next) = record { first = at body (Some x); second = at next (Some x) }
 leads_to x (instruction.Return st) = record { first = None; second = None }

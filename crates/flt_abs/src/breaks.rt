@@ -292,7 +292,7 @@ pub(crate) fn breaks(setting: &Setting, state: &Abs, instruction: &Instruction, 
 {
     match instruction {
         Instruction::Act(action, _) => action_breaks(state, *action, rule),
-        Instruction::Call(call, _, _) => call_breaks(setting, state, call, rule),
+        Instruction::Call(call, _, _) => call_breaks(setting, state, &call.roles(), rule),
         Instruction::Test(test, _, _) => test_breaks(setting, state, *test, rule),
         Instruction::Repeat(_, _, _) => false,
         Instruction::Return(status) => return_breaks(setting, state, *status, rule),

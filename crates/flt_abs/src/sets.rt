@@ -104,14 +104,14 @@ impl Statuses {
     }
 
     /// Whether the variable is surely held.
-    pub(crate) fn is_held(self) -> bool
+    pub fn is_held(self) -> bool
         ensures { result ≡ spec.is_held self }
     {
         self.has_held() && !self.has_null() && !self.has_stale()
     }
 
     /// Whether the variable was surely released or handed over.
-    pub(crate) fn is_stale(self) -> bool
+    pub fn is_stale(self) -> bool
         ensures { result ≡ spec.is_stale self }
     {
         self.has_stale() && !self.has_null() && !self.has_held()
@@ -148,26 +148,29 @@ impl Statuses {
         self.bits.bits()
     }
 
-    pub(crate) fn has_null(self) -> bool
+    /// Whether the variable may be NULL.
+    pub fn has_null(self) -> bool
         ensures { result ≡ self.null }
     {
         self.bits.contains(StatusBits::NULL)
     }
 
-    pub(crate) fn has_held(self) -> bool
+    /// Whether the variable may be held.
+    pub fn has_held(self) -> bool
         ensures { result ≡ self.held }
     {
         self.bits.contains(StatusBits::HELD)
     }
 
-    pub(crate) fn has_stale(self) -> bool
+    /// Whether the variable may have been released or handed over.
+    pub fn has_stale(self) -> bool
         ensures { result ≡ self.stale }
     {
         self.bits.contains(StatusBits::STALE)
     }
 
     /// Whether some status is in the set.
-    pub(crate) fn is_possible(self) -> bool
+    pub fn is_possible(self) -> bool
         ensures { result ≡ spec.is_possible self }
     {
         self.has_null() || self.has_held() || self.has_stale()
@@ -183,7 +186,7 @@ impl Statuses {
 
     /// The union of both sets.
     #[tactic(auto, using(crate::proofs::SetLemmas::either_status_bits, crate::proofs::SetLemmas::or_below_eight))]
-    pub(crate) fn union(self, other: Statuses) -> Statuses
+    pub fn union(self, other: Statuses) -> Statuses
         ensures { result ≡ spec.either_status self other }
     {
         Statuses {
@@ -304,20 +307,22 @@ impl Modes {
         self.bits.bits()
     }
 
-    pub(crate) fn has_irp(self) -> bool
+    /// Whether the operation may be an IRP.
+    pub fn has_irp(self) -> bool
         ensures { result ≡ self.irp }
     {
         self.bits.contains(ModeBits::IRP)
     }
 
-    pub(crate) fn has_fast(self) -> bool
+    /// Whether the operation may be fast I/O.
+    pub fn has_fast(self) -> bool
         ensures { result ≡ self.fast }
     {
         self.bits.contains(ModeBits::FAST)
     }
 
     /// Whether some mode is in the set.
-    pub(crate) fn is_possible(self) -> bool
+    pub fn is_possible(self) -> bool
         ensures { result ≡ spec.is_mode_possible self }
     {
         self.has_irp() || self.has_fast()
@@ -333,7 +338,7 @@ impl Modes {
 
     /// The union of both sets.
     #[tactic(auto, using(crate::proofs::SetLemmas::either_mode_bits, crate::proofs::SetLemmas::or_below_four))]
-    pub(crate) fn union(self, other: Modes) -> Modes
+    pub fn union(self, other: Modes) -> Modes
         ensures { result ≡ spec.either_mode self other }
     {
         Modes {
@@ -444,20 +449,22 @@ impl Draining {
         self.bits.bits()
     }
 
-    pub(crate) fn has_no(self) -> bool
+    /// Whether the flag may be unset.
+    pub fn has_no(self) -> bool
         ensures { result ≡ self.no }
     {
         self.bits.contains(DrainingBits::NO)
     }
 
-    pub(crate) fn has_yes(self) -> bool
+    /// Whether the flag may be set.
+    pub fn has_yes(self) -> bool
         ensures { result ≡ self.yes }
     {
         self.bits.contains(DrainingBits::YES)
     }
 
     /// Whether some answer is in the set.
-    pub(crate) fn is_possible(self) -> bool
+    pub fn is_possible(self) -> bool
         ensures { result ≡ spec.is_draining_possible self }
     {
         self.has_no() || self.has_yes()
@@ -473,7 +480,7 @@ impl Draining {
 
     /// The union of both sets.
     #[tactic(auto, using(crate::proofs::SetLemmas::either_draining_bits, crate::proofs::SetLemmas::or_below_four))]
-    pub(crate) fn union(self, other: Draining) -> Draining
+    pub fn union(self, other: Draining) -> Draining
         ensures { result ≡ spec.either_draining self other }
     {
         Draining {

@@ -17,7 +17,8 @@ use crate::locks::LockList;
 use crate::sets::{Draining, Modes, Statuses};
 use crate::state::Abs;
 use flt_graph::{
-    Action, Graph, Instruction, Invocation, LockNumber, OperationVariable, Status, Test,
+    Action, Graph, Instruction, Invocation, LockNumber, OperationVariable, ResolvedCall, Status,
+    Test,
 };
 use flt_rules::{Change, Effects, LockChange, Row, Rule, row};
 
@@ -255,7 +256,8 @@ fn follow(leads: &mut Leads, state: &Abs, instruction: &Instruction)
     match instruction {
         Instruction::Act(action, next) => follow_action(leads, state, *action, *next),
         Instruction::Call(call, granted, failed) => {
-            follow_call(leads, state, call, &row(call.call), *granted, *failed);
+            let call = call.roles();
+            follow_call(leads, state, &call, &row(call.call), *granted, *failed);
         }
         Instruction::Test(test, yes, no) => follow_test(leads, state, *test, *yes, *no),
         Instruction::Repeat(_, body, next) => {
@@ -284,20 +286,21 @@ fn transfer_call(
     callback: usize,
     state: &Abs,
     leads: &mut Leads,
-    call: &Invocation,
+    call: ResolvedCall,
     granted: usize,
     failed: usize,
 ) -> Option<Rule>
     ensures leads { IfNone result
-        (spec.outcome (setting_of graph.now callback state.now) state.now (variant.Call call.now granted failed) ≡ Ok leads.new) }
+        (spec.outcome (setting_of graph.now callback state.now) state.now (variant.Call call granted failed) ≡ Ok leads.new) }
     ensures rule { IfSome result
-        (λ rule. spec.outcome (setting_of graph.now callback state.now) state.now (variant.Call call.now granted failed) ≡ Err rule) }
+        (λ rule. spec.outcome (setting_of graph.now callback state.now) state.now (variant.Call call granted failed) ≡ Err rule) }
     ensures stays { IfSome result (λ _. leads.new ≡ leads.old) }
 {
-    let row = row(call.call);
-    let rule = first_of_call(graph, callback, state, call, &row);
+    let roles = call.roles();
+    let row = row(roles.call);
+    let rule = first_of_call(graph, callback, state, &roles, &row);
     if rule.is_none() {
-        follow_call(leads, state, call, &row, granted, failed);
+        follow_call(leads, state, &roles, &row, granted, failed);
     }
     rule
 }
@@ -370,7 +373,7 @@ pub fn transfer_into(
             rule
         }
         Instruction::Call(call, granted, failed) => {
-            transfer_call(graph, callback, state, leads, call, *granted, *failed)
+            transfer_call(graph, callback, state, leads, *call, *granted, *failed)
         }
         Instruction::Test(test, yes, no) => {
             transfer_test(graph, callback, state, leads, *test, *yes, *no)

@@ -11,14 +11,14 @@ use flt_graph::{ContextVariable, OperationVariable};
 
 impl Abs {
     /// The possible statuses of a variable of contexts.
-    pub(crate) fn context(&self, variable: ContextVariable) -> Statuses
+    pub fn context(&self, variable: ContextVariable) -> Statuses
         ensures { result ≡ spec.context_in self.now variable }
     {
         self.contexts[variable.place()]
     }
 
     /// The possible statuses of a variable of operations.
-    pub(crate) fn operation(&self, variable: OperationVariable) -> Statuses
+    pub fn operation(&self, variable: OperationVariable) -> Statuses
         ensures { result ≡ spec.operation_in self.now variable }
     {
         self.operations[variable.place()]
@@ -28,14 +28,16 @@ impl Abs {
         requires { sets.is_possible statuses ≡ true }
         ensures { self.new ≡ spec.with_context self.old variable statuses }
     {
-        self.contexts[variable.place()] = statuses;
+        let place = variable.place();
+        self.contexts[place] = statuses;
     }
 
     pub(crate) fn set_operation(&mut self, variable: OperationVariable, statuses: Statuses)
         requires { sets.is_possible statuses ≡ true }
         ensures { self.new ≡ spec.with_operation self.old variable statuses }
     {
-        self.operations[variable.place()] = statuses;
+        let place = variable.place();
+        self.operations[place] = statuses;
     }
 
     pub(crate) fn set_locks(&mut self, locks: LockList)

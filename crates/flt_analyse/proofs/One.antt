@@ -8,7 +8,7 @@ use Rattle.std.proofs.lemmas.Option.{same_Some}
 use Rattle.flt_rules.specs.declared.rule.Rule.{Rule}
 use Rattle.flt_graph.specs.Graph.{line_at}
 use Rattle.flt_graph.specs.declared.graph.Graph.{Graph}
-use Rattle.flt_check.specs.declared.checker.Refusal.{Refusal}
+use Rattle.flt_rules.specs.declared.refusal.Refusal.{Refusal}
 use Rattle.flt_analyse.specs.Least.{LacksRoom, IsNamed}
 use Rattle.flt_analyse.specs.Pending.{least}
 use Rattle.flt_analyse.specs.Walk.{look, taken, opening, Leads, Stops, Ends, IsFirstFault}

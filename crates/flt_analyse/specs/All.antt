@@ -3,7 +3,7 @@ use Rattle.std.specs.Prelude.{◌≡◌, ℕ, ◌<◌, ◌≤◌, ◌+◌, ◌*�
 use Rattle.flt_graph.specs.declared.graph.Graph.{Graph}
 use Rattle.flt_cert.specs.Format.{Certificate}
 use Rattle.flt_check.specs.Covering.{Covers}
-use Rattle.flt_check.specs.declared.checker.Refusal.{Refusal}
+use Rattle.flt_rules.specs.declared.refusal.Refusal.{Refusal}
 use Rattle.flt_analyse.specs.Least.{IsLeast, NoneCovers, IsNamed}
 
 -- what the analyser answers for a graph where memory lasts: the least certificate that covers it, or the fault that its walk meets first

@@ -5,7 +5,7 @@ use Rattle.flt_graph.specs.Graph.{points_at, line_at}
 use Rattle.flt_graph.specs.declared.graph.Graph.{Graph}
 use Rattle.flt_cert.specs.Format.{Certificate, Point, is_certificate}
 use Rattle.flt_check.specs.Covering.{Covers, IsCertificateBelow, IsCovered}
-use Rattle.flt_check.specs.declared.checker.Refusal.{Refusal}
+use Rattle.flt_rules.specs.declared.refusal.Refusal.{Refusal}
 use Rattle.flt_analyse.specs.Walk.{IsFirstFault, Stops}
 use Rattle.flt_analyse.specs.declared.fault.AnalyseFault.{AnalyseFault}
 use Rattle.flt_analyse.specs.declared.fault.AnalyseFault.TheVariants.{Refused, OutOfMemory}

@@ -13,7 +13,7 @@ use Rattle.flt_abs.specs.Step.{transfer}
 use Rattle.flt_abs.specs.declared.step.Successor.{Successor}
 use Rattle.flt_abs.specs.declared.step.Successors.{Successors}
 use Rattle.flt_cert.specs.Format.{Point}
-use Rattle.flt_check.specs.declared.checker.Refusal.{Refusal}
+use Rattle.flt_rules.specs.declared.refusal.Refusal.{Refusal}
 use Rattle.flt_analyse.specs.Pending.{least, no_flags}
 use Rattle.flt_analyse.specs.declared.walk.Walk.{Walk}
 

@@ -2,7 +2,7 @@
 
 ghost use Rattle.std.specs.Prelude.{◌≡◌, ◌<◌, ◌≤◌, ◌+◌, ◌↔◌, length, IsTrue, IfOk, IfErr};
 ghost use Rattle.flt_check.specs.Covering.{Covers};
-ghost use Rattle.flt_check.specs.declared.checker.Refusal.{Refusal};
+ghost use Rattle.flt_rules.specs.declared.refusal.Refusal.{Refusal};
 ghost use Rattle.flt_graph.specs.declared.graph.Graph.{Graph};
 ghost use Rattle.flt_analyse.specs.Least as spec;
 
@@ -11,9 +11,8 @@ use crate::pending::POINTS;
 use crate::ticks::Ticks;
 use crate::walk::walk_callback;
 use flt_cert::FullCert;
-use flt_check::Refusal;
 use flt_graph::Graph;
-use flt_rules::{MAX_CALLBACKS, Rule};
+use flt_rules::{MAX_CALLBACKS, Refusal, Rule};
 use sqlite_items::Items;
 use std::alloc::Global;
 use std::sync::ledger::Ledger;

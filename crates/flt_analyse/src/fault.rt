@@ -3,7 +3,7 @@
 ghost use Rattle.flt_analyse.specs.declared.fault.AnalyseFault.TheVariants.{OutOfMemory, Refused};
 ghost use Rattle.std.specs.Prelude.{◌≡◌, IfOk, IfErr};
 
-use flt_check::Refusal;
+use flt_rules::Refusal;
 use std::alloc::{AllocError, AllocFailed};
 use thiserror::Error;
 

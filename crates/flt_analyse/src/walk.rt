@@ -15,9 +15,8 @@ use crate::ticks::Ticks;
 use flt_abs::{
     Abs, Leads, LocksDiffer, entry_state, join, joins_are_least, leq, transfer_is_monotone,
 };
-use flt_check::Refusal;
 use flt_graph::Graph;
-use flt_rules::Rule;
+use flt_rules::{Refusal, Rule};
 use sqlite_items::Items;
 use std::alloc::{AllocError, Global};
 use std::sync::ledger::Ledger;

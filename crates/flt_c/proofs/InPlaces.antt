@@ -127,7 +127,8 @@ abbrev Meets : Bool → ℕ → Place → Place → Type 0
 Meets true last at here = (here.line ≡ last + 1) × (here.column ≡ 1)
 Meets false last at here = (last ≡ at.line) × ((here.line ≡ at.line) × (here.column ≡ at.column))
 
-is_in : (file : List ℕ) (p : PlacedByte) (here : Place) → IsAt file p.place p.byte → here.line ≡ p.place.line → here.column ≡ p.place.column →
+is_in : (file : List ℕ) (p : PlacedByte) (here : Place) → IsAt file p.place p.byte →
+    here.line ≡ p.place.line → here.column ≡ p.place.column →
     IsInC file here p.byte
 is_in file p here i l c = (p.place.start, (ap (λ (q : Place). q.line) i.0 ∙ sym l, (ap (λ (q : Place). q.column) i.0 ∙ sym c, i.1)))
 

@@ -18,7 +18,8 @@ pub record IsRead (number : ℕ) (before : Text) (file : List ℕ) (text : Text)
   pub column : s.at.column ≤ s.at.start + 1
   pub depth : s.depth ≤ s.at.start
 
-put_more : (number : ℕ) (text : Text) (xs ys : List PlacedByte) → put_all number text (xs ++ ys) ≡ put_all number (put_all number text xs) ys
+put_more : (number : ℕ) (text : Text) (xs ys : List PlacedByte) →
+    put_all number text (xs ++ ys) ≡ put_all number (put_all number text xs) ys
 put_more number text [] ys = refl
 put_more number text (x ∷ xs) ys = put_more number (put number text x) xs ys
 

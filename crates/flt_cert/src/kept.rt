@@ -6,7 +6,7 @@ ghost use Rattle.flt_graph.specs.Graph.{instruction_at};
 ghost use Rattle.flt_graph.specs.Kept as spec;
 
 use flt_graph::{Graph, Instruction};
-use flt_rules::{MAX_POINTS, row};
+use flt_rules::MAX_POINTS;
 
 /// Counts one more edge into a point, two at most.
 #[inline(always)]
@@ -31,7 +31,7 @@ fn count_edges(edges: &mut [u8], instruction: &Instruction)
         Instruction::Act(_, next) => count_edge(edges, *next),
         Instruction::Call(call, granted, failed) => {
             count_edge(edges, *granted);
-            if row(call.call).on_fail.is_some() {
+            if call.can_fail() {
                 count_edge(edges, *failed);
             }
         }

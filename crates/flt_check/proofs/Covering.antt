@@ -19,9 +19,9 @@ use Rattle.flt_cert.specs.Format.{Certificate, is_callback, is_certificate}
 use Rattle.std.specs.Prelude.{◌↔◌, OnOk, IfErr, IsOk}
 use Rattle.std.proofs.Common.{inl, inr}
 use Rattle.std.proofs.lemmas.Option.{none-some}
-use Rattle.flt_check.specs.declared.checker.Refusal.{Refusal}
-use Rattle.flt_check.specs.Checker.{IsCountFault, IsLeastFault, lead_fault, successor_fault, lesser, result_fault, own_fault}
-use Rattle.flt_check.specs.Checker.{entry_by, entry_fault, point_fault, differs, AgreeOnCounts, IsFaultless}
+use Rattle.flt_check.specs.Checker.{IsCountFault, IsLeastFault, lead_fault, successor_fault, lesser, result_fault, own_fault, entry_by}
+use Rattle.flt_check.specs.Checker.{entry_fault, point_fault, differs, AgreeOnCounts, IsFaultless}
+use Rattle.flt_rules.specs.declared.refusal.Refusal.{Refusal}
 use Rattle.flt_check.specs.Covering.{state_at, count_at, IsLed, Steps, Covers}
 
 -- ---- options of rules

@@ -16,7 +16,7 @@ use Rattle.flt_check.specs.Covering.{Covers}
 use Rattle.flt_check.specs.Full.{full}
 use Rattle.flt_check.specs.ThinCovering.{CoversThin}
 use Rattle.flt_check.specs.ThinFault.{IsThinFault}
-use Rattle.flt_check.specs.declared.checker.Refusal.{Refusal}
+use Rattle.flt_rules.specs.declared.refusal.Refusal.{Refusal}
 use Rattle.flt_check.proofs.Covering.{least_not}
 use Rattle.flt_check.proofs.Thin.Accepted.{fault_not}
 

@@ -9,7 +9,7 @@ use Rattle.flt_graph.specs.Graph.{line_at}
 use Rattle.flt_graph.specs.declared.graph.Graph.{Graph}
 use Rattle.flt_cert.specs.Format.{Certificate}
 use Rattle.flt_check.specs.Checker.{point_fault, IsCountFault, IsFirstPoint, IsCountRefusal, IsPointRefusal, IsLeastFault}
-use Rattle.flt_check.specs.declared.checker.Refusal.{Refusal}
+use Rattle.flt_rules.specs.declared.refusal.Refusal.{Refusal}
 use Rattle.flt_check.proofs.Covering.{count_fault_not}
 
 abbrev told : ℕ → ℕ → ℕ → Rule → Refusal

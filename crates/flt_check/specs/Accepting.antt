@@ -8,7 +8,7 @@ use Rattle.flt_check.specs.Covering.{Covers}
 use Rattle.flt_check.specs.Full.{full}
 use Rattle.flt_check.specs.ThinCovering.{CoversThin}
 use Rattle.flt_check.specs.ThinFault.{IsThinFault}
-use Rattle.flt_check.specs.declared.checker.Refusal.{Refusal}
+use Rattle.flt_rules.specs.declared.refusal.Refusal.{Refusal}
 
 -- a full certificate covers by what it says, a thin one by what follows from it
 abbrev pub CertCovers : Graph → Cert → Type 0

@@ -4,7 +4,7 @@ use Rattle.flt_rules.specs.declared.rule.Rule.TheVariants.{R14}
 use Rattle.flt_graph.specs.Graph.{points_at, line_at}
 use Rattle.flt_graph.specs.declared.graph.Graph.{Graph}
 use Rattle.flt_check.specs.Checker.{AgreeOnCounts, NoneIn, IsCountRefusal, IsPointRefusal}
-use Rattle.flt_check.specs.declared.checker.Refusal.{Refusal}
+use Rattle.flt_rules.specs.declared.refusal.Refusal.{Refusal}
 use Rattle.flt_graph.specs.Kept.{is_kept}
 use Rattle.flt_cert.specs.Thin.{Thin, slot_at}
 use Rattle.flt_check.specs.Full.{full}

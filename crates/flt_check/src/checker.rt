@@ -10,16 +10,7 @@ ghost use Rattle.flt_graph.specs.Graph.{points_at, line_at};
 use flt_abs::{Abs, Leads, is_entry_below, leq, transfer_into};
 use flt_cert::FullCert;
 use flt_graph::{Graph, Place};
-use flt_rules::Rule;
-
-/// Why a certificate isn't accepted: the least fault. Callbacks and points count from 0, lines from 1.
-#[derive(Clone, Copy, Debug)]
-pub struct Refusal {
-    pub callback: usize,
-    pub point: usize,
-    pub line: usize,
-    pub rule: Rule,
-}
+use flt_rules::{Refusal, Rule};
 
 /// The rule that a state breaks by leading to a point, if it breaks one.
 pub(crate) fn lead_fault(state: &Abs, at: Option<&Abs>) -> Option<Rule>

@@ -10,7 +10,6 @@ use crate::laws::thin_certificates_fill_up;
 use flt_abs::{Abs, Leads, transfer_into};
 use flt_cert::{FullCert, Slot, ThinCert};
 use flt_graph::{Graph, Instruction};
-use flt_rules::row;
 use sqlite_items::Items;
 use std::alloc::{AllocError, Global};
 
@@ -21,7 +20,7 @@ fn has_edge(instruction: &Instruction, to: usize) -> bool
     match instruction {
         Instruction::Act(_, next) => *next == to,
         Instruction::Call(call, granted, failed) => {
-            *granted == to || (row(call.call).on_fail.is_some() && *failed == to)
+            *granted == to || (call.can_fail() && *failed == to)
         }
         Instruction::Test(_, granted, refused) => *granted == to || *refused == to,
         Instruction::Repeat(_, body, next) => *body == to || *next == to,

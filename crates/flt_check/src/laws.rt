@@ -12,7 +12,7 @@ ghost use Rattle.flt_check.specs.Covering.{Covers, IsCertificateBelow};
 ghost use Rattle.flt_check.specs.Full.{full};
 ghost use Rattle.flt_check.specs.ThinCovering.{CoversThin};
 ghost use Rattle.flt_check.specs.ThinFault.{IsThinFault};
-ghost use Rattle.flt_check.specs.declared.checker.Refusal.{Refusal};
+ghost use Rattle.flt_rules.specs.declared.refusal.Refusal.{Refusal};
 ghost use Rattle.flt_graph.specs.Kept.{IsRising};
 ghost use Rattle.flt_graph.specs.Lowering.{IsLowered};
 ghost use Rattle.flt_graph.specs.declared.graph.Graph.{Graph};

@@ -10,7 +10,6 @@ mod thin_checker;
 mod thin_points;
 
 pub use accepting::check;
-pub use checker::Refusal;
 pub use filling::fill;
 pub use laws::{
     accepted_certificates_fill_up, covering_is_faultless, one_fault_is_least, one_refusal_at_most,

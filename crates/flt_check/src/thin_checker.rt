@@ -7,13 +7,12 @@ ghost use Rattle.flt_check.specs.ThinCovering.{CoversThin};
 ghost use Rattle.flt_check.specs.ThinFault as spec;
 ghost use Rattle.flt_check.specs.Full.{full};
 
-use crate::checker::Refusal;
 use crate::laws::covering_is_faultless;
 use crate::thin_points::{callback_fault, other_point};
 use flt_abs::{joins_are_least, transfer_is_monotone, transfer_keeps_states_proper};
 use flt_cert::ThinCert;
 use flt_graph::Graph;
-use flt_rules::Rule;
+use flt_rules::{Refusal, Rule};
 
 /// Whether a certificate lacks a callback of the text, or has not as many points for it.
 fn differs(graph: &Graph, thin: &ThinCert, callback: usize) -> bool

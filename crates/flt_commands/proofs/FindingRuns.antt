@@ -52,7 +52,8 @@ module _ (trees : List Tree) (files : List Files) (numbers : List ℕ) (all : Li
   one_more_run runs after are next = rw one_note (spec.one_note_more one are next)
 
 -- what is found of the run of a finding whose outcome is this: its flow, or that its journal is no run
-module _ (trees : List Tree) (files : List Files) (numbers : List ℕ) (n : Note) (b : BreakingJournal) (runs : List FindingRun) (own : List Tree)
+module _ (trees : List Tree) (files : List Files) (numbers : List ℕ) (n : Note)
+    (b : BreakingJournal) (runs : List FindingRun) (own : List Tree)
     (own_file : List Files) (found : Option Flow) (same : own ≡ own_of trees n.filter n.scheduled)
     (named : own_file ≡ own_files files n.filter n.scheduled)
     (is : MatchOption found (run_of (by_altitude (filters_of own)) b.journal ≡ None) (IsFlow own own_file b.journal)) where

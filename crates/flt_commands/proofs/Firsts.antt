@@ -1,42 +1,16 @@
--- The first of several: what holds of those before it, and where it stands.
-use Rattle.std.proofs.Common.{◌≡◌, ◌⊎◌, inr, ℕ, ◌+◌, ◌<◌, ◌≤◌, Bool, true, false, ◌&&◌, ◌||◌, List, [], ◌∷◌, ◌++◌, None, Some, Bor}
-use Rattle.std.proofs.Common.{Vec, Global, length, get_or, take, drop, map, refl, sym, ap, ◌∙◌, arith, count_by, cond, append_assoc}
+-- The first of several names for which nothing is given, and those before it.
+use Rattle.std.proofs.Common.{◌≡◌, ◌⊎◌, inr, ℕ, ◌+◌, ◌<◌, ◌≤◌, Bool, true, false, ◌&&◌, ◌||◌, List, [], ◌∷◌, ◌++◌, None, Some, Bor, Vec}
+use Rattle.std.proofs.Common.{Global, length, get_or, take, drop, map, refl, sym, ap, ◌∙◌, arith, count_by, cond, append_assoc}
 use Rattle.std.proofs.Math.Bool.{or_assoc}
-use Rattle.std.proofs.lemmas.List.{take-append-drop, drop_more, map-append, map_more, map_push, length-take-le, length-map}
+use Rattle.std.proofs.lemmas.List.{map_push}
 use Rattle.std.proofs.lemmas.List.Folds.{list_any-append}
 use Rattle.std.proofs.lemmas.List.Sums.{sum_by-cons, sum_by_push}
 use Rattle.std.proofs.lemmas.Slice.Zip.{all_zipped_more}
 use Rattle.std.specs.List.{list_any}
-use Rattle.flt_replay.specs.Judging.{filters_of}
-use Rattle.flt_syntax.specs.TextFails.{Fails}
-use Rattle.flt_syntax.specs.Spelling.{Spells}
-use Rattle.flt_syntax.specs.declared.fault.SyntaxFault.{SyntaxFault}
-use Rattle.flt_tree.specs.declared.filter.Filter.{Filter}
-use Rattle.flt_tree.specs.declared.tree.Tree.{Tree}
+use Rattle.flt_tree.proofs.Parts.{one_more, parted}
 use Rattle.flt_commands.specs.Inputs.{Giving, Text, AreGiven, AreGivenBehind, IsUnreadable, NamesFail, NamesFailBehind, is_standard}
-use Rattle.flt_stack_prepare.specs.Texts.{AreSpelled, IsSyntaxFault}
 use Rattle.flt_commands.specs.declared.failure.Failure.{Failure}
 use Rattle.flt_commands.specs.declared.failure.Failure.TheVariants.{CannotRead}
-
--- ---- the parts of a list at a place
-
-module _ {X Y : Type 0} (f : X → Y) (xs : List X) (i : ℕ) (x d : X) (h : i < length xs) (at : x ≡ get_or xs i d) where
-  -- what is read of one name more is read of the names before it and of that one
-  pub one_more : map f (take (i + 1) xs) ≡ map f (take i xs) ++ f x ∷ []
-  one_more = rw at (map_more f xs i d h)
-
-  -- what is read of all is read of those before a place, of the one there and of those after it
-  pub parted : map f xs ≡ map f (take i xs) ++ f x ∷ map f (drop (i + 1) xs)
-  parted =
-      let rest : map f (drop i xs) ≡ f (get_or xs i d) ∷ map f (drop (i + 1) xs) = ap (map f) (drop_more xs i d h) in
-      let whole : map f xs ≡ map f (take i xs) ++ map f (drop i xs) = sym (ap (map f) (take-append-drop i xs))
-      ∙ map-append f (take i xs) (drop i xs) in
-      rw at (rw rest at whole)
-
-  pub places_before : i ≡ length (map f (take i xs))
-  places_before =
-      let front : length (take i xs) ≡ i = length-take-le i xs (omega arith) in
-      sym (length-map (take i xs) f ∙ front)
 
 -- what two functions make of a list, one behind the other
 pub mapped_twice : {A B C : Type 0} (f : A → B) (g : B → C) (xs : List A) → map g (map f xs) ≡ map (λ x. g (f x)) xs
@@ -183,33 +157,4 @@ module _ (gives : Giving) where
     given = none_given;
     missing = inr none;
     told = refl;
-  }
-
--- ---- the texts
-
-module _ (texts : List (Vec ℕ Global)) (i : ℕ) (text d : Vec ℕ Global) (h : i < length texts) (at : text ≡ get_or texts i d) where
-  -- one more tree is what one more text spells
-  pub spelled_more : (trees more : List Tree) (tree : Tree) → AreSpelled (map (λ t. t.items) (take i texts)) (filters_of trees) →
-      Spells text.items tree.filter →
-      more ≡ trees ++ tree ∷ [] → AreSpelled (map (λ t. t.items) (take (i + 1) texts)) (filters_of more)
-  spelled_more trees more tree spelled one pushed =
-      let read : map (λ (t : Vec ℕ Global). t.items) (take (i + 1) texts) ≡ map (λ (t : Vec ℕ Global). t.items) (take i texts)
-      ++ text.items ∷ [] =
-      one_more (λ t. t.items) texts i text d h at in
-      let parsed : filters_of more ≡ filters_of trees ++ tree.filter ∷ [] = ap filters_of pushed ∙ map_push (λ t. t.filter) trees tree in
-      rw (read, parsed) (all_zipped_more _ _ _ text.items tree.filter spelled one)
-
-  -- the first text that fails to parse is the syntax fault of all
-  pub first_fault : (filters : List Filter) (f : SyntaxFault) → AreSpelled (map (λ t. t.items) (take i texts)) filters →
-      Fails text.items f →
-      IsSyntaxFault (map (λ t. t.items) texts) i f
-  first_fault filters f spelled fault = record {
-    before = map (λ t. t.items) (take i texts);
-    text = text.items;
-    after = map (λ t. t.items) (drop (i + 1) texts);
-    parts = parted (λ t. t.items) texts i text d h at;
-    filters = filters;
-    spelled = spelled;
-    counted = places_before (λ t. t.items) texts i text d h at;
-    fault = fault;
   }

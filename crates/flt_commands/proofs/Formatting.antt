@@ -3,7 +3,7 @@ use Rattle.std.proofs.Common.{◌≡◌, ◌≢◌, ◌∙◌, ◌+◌, ◌<◌,
 use Rattle.std.proofs.Common.{◌∷◌, ◌++◌, Bor, Vec, Global, Result, Ok, Err, IfOk, length, map, refl, string_bytes, sym}
 use Rattle.std.proofs.lemmas.List.Elements.{All-push, All-weaker}
 use Rattle.std.specs.List.{All, list_any}
-use Rattle.flt_commands.proofs.Firsts.{any_more, one_more}
+use Rattle.flt_commands.proofs.Firsts.{any_more}
 use Rattle.flt_commands.specs.Answer.{told_status}
 use Rattle.flt_commands.specs.Attempts.{Attempt}
 use Rattle.flt_commands.specs.Commands.{IsKept, IsReported}
@@ -19,6 +19,7 @@ use Rattle.flt_commands.specs.declared.outcomes.Outcomes.{Outcomes}
 use Rattle.flt_commands.specs.declared.outcomes.Outcome.TheVariants.{Same, Other, Unwritten, Fault, Long}
 use Rattle.flt_commands.specs.declared.report.Report.{Report}
 use Rattle.flt_explain_forms.specs.declared.unread.UnreadFile.{UnreadFile}
+use Rattle.flt_tree.proofs.Parts.{one_more}
 use Rattle.flt_words.specs.Request.{Format}
 use Rattle.flt_words.specs.declared.request.FormatMode.{FormatMode}
 use Rattle.flt_words.specs.declared.request.FormatMode.TheVariants as modes

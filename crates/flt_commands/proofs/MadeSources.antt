@@ -1,5 +1,6 @@
 -- The sources of texts that files make.
-use Rattle.std.proofs.Common.{◌≡◌, ◌∙◌, ◌≤◌, ◌<◌, ℕ, zero, suc, ◌+◌, ◌-◌, List, [], ◌∷◌, ◌++◌, ap, ap₂, arith, drop, get_or, length, map, refl}
+use Rattle.std.proofs.Common.{◌≡◌, ◌∙◌, ◌≤◌, ◌<◌, ℕ, zero, suc, ◌+◌, ◌-◌, List, [], ◌∷◌}
+use Rattle.std.proofs.Common.{◌++◌, ap, ap₂, arith, drop, get_or, length, map, refl}
 use Rattle.std.proofs.Common.{sym, take}
 use Rattle.std.proofs.Math.Seq.{take-suc}
 use Rattle.std.proofs.lemmas.List.{length-map}
@@ -90,7 +91,8 @@ source_of_text told files own named group j s is of = record {
 }
 
 -- the sources of the texts are those of the files
-pub sources_of_files : (told : Text → Text) (files : List GivenFile) (joined : JoinedTexts) (own : List SourceFile) (sources : List Source) →
+pub sources_of_files : (told : Text →
+    Text) (files : List GivenFile) (joined : JoinedTexts) (own : List SourceFile) (sources : List Source) →
     AreJoined files joined → AreNamed told (givens files) own → AllZip (IsSourceIn own) joined.texts.items sources →
     AllZip (IsSourceOf told) (filter make_text (groups_of (givens files))) sources
 sources_of_files told files joined own sources are named of =

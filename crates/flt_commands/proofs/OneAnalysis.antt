@@ -8,7 +8,7 @@ use Rattle.flt_cert.specs.Format.{Certificate}
 use Rattle.flt_cert.specs.Spelling.{spelling, thinned}
 use Rattle.flt_cert.specs.declared.cert.Cert.TheVariants.{Full}
 use Rattle.flt_check.specs.Covering.{Covers}
-use Rattle.flt_check.specs.declared.checker.Refusal.{Refusal}
+use Rattle.flt_rules.specs.declared.refusal.Refusal.{Refusal}
 use Rattle.flt_analyse.specs.Least.{IsLeast, IsNamed, NoneCovers}
 use Rattle.flt_commands.specs.Analyse.{IsAnalysed, IsCertified, IsFailure, IsRefused, Judges}
 use Rattle.flt_commands.specs.Check.{HasPoints}

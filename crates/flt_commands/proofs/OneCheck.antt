@@ -3,7 +3,7 @@ use Rattle.std.proofs.Common.{◌≡◌, Ok, refl, ap}
 use Rattle.flt_graph.specs.declared.graph.Graph.{Graph}
 use Rattle.flt_cert.specs.declared.cert.Cert.{Cert}
 use Rattle.flt_check.specs.Accepting.{CertCovers, IsCertFault}
-use Rattle.flt_check.specs.declared.checker.Refusal.{Refusal}
+use Rattle.flt_rules.specs.declared.refusal.Refusal.{Refusal}
 use Rattle.flt_commands.proofs.OneDecision.{DecidesOne}
 use Rattle.flt_commands.specs.Check.{Decides}
 use Rattle.flt_commands.specs.Single.{seen}

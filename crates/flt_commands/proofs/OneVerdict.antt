@@ -15,7 +15,7 @@ use Rattle.flt_model.specs.declared.verdict.Verdict.{Verdict}
 use Rattle.flt_commands.proofs.OnePlace.{Places, same, earlier, later, places, zipped_at, zipped_once}
 use Rattle.flt_commands.specs.Inputs.{Text}
 use Rattle.flt_commands.specs.Replay.{IsFailure, IsReplayed, IsVerdict, Judges}
-use Rattle.flt_stack_prepare.specs.Texts.{AreSpelled, IsSyntaxFault}
+use Rattle.flt_syntax.specs.Texts.{AreSpelled, IsSyntaxFault}
 use Rattle.flt_commands.specs.Single.{AreSame, SaysOne, seen, told}
 use Rattle.flt_commands.specs.declared.answer.Answer.{Answer}
 use Rattle.flt_commands.specs.declared.answer.Answer.TheVariants.{Judged}

@@ -5,7 +5,7 @@ use Rattle.std.proofs.lemmas.Slice.Zip.{all_zipped_more}
 use Rattle.std.specs.Io.{StartsWith}
 use Rattle.std.specs.List.{AllZip, list_all}
 use Rattle.flt_explain_pages.specs.Pages.{has_page, title}
-use Rattle.flt_commands.proofs.Firsts.{one_more, parted}
+use Rattle.flt_tree.proofs.Parts.{one_more, parted}
 use Rattle.flt_commands.specs.Explain.{IsUnpaged}
 use Rattle.flt_commands.specs.Inputs.{Text}
 

@@ -1,17 +1,14 @@
 -- How the answers of commands are written. This project's own program.
-use Rattle.std.specs.Prelude.{ℕ, List, [], ◌∷◌, ◌++◌, codes, flat_map, nat_lt, if◌then◌else◌, Result, Ok, Err}
+use Rattle.std.specs.Prelude.{ℕ, List, [], ◌∷◌, ◌++◌, codes, flat_map, Result, Ok, Err}
 use Rattle.std.specs.Fmt.{decimal}
 use Rattle.std.specs.List.{join_by}
-use Rattle.flt_rules.specs.Rule.{number, text}
-use Rattle.flt_rules.specs.declared.rule.Rule.{Rule}
+use Rattle.flt_rules.specs.Refusal.{refusal_line, refusal_words}
+use Rattle.flt_rules.specs.declared.refusal.Refusal.{Refusal}
 use Rattle.flt_stack_crew.specs.declared.ending.Ending.{Ending}
 use Rattle.flt_stack_crew.specs.declared.ending.Ending.TheVariants.{Whole, Full, Already, Differ}
-use Rattle.flt_check.specs.declared.checker.Refusal.{Refusal}
 use Rattle.flt_explain_forms.specs.declared.unread.UnreadFile.{UnreadFile}
-use Rattle.flt_model.specs.declared.verdict.Verdict.{Verdict}
-use Rattle.flt_model.specs.declared.verdict.Verdict.TheVariants.{Legal, NotARun, Breaks}
-use Rattle.flt_model.specs.declared.verdict.Violation.{Violation}
-use Rattle.flt_model.specs.declared.verdict.Violation.TheVariants.{V1, V2, V3, V4, V5, V6, V7, V8}
+use Rattle.flt_model.specs.Verdicts.{verdict_line}
+use Rattle.flt_model.specs.declared.verdict.Verdict.TheVariants.{Legal}
 use Rattle.flt_commands.specs.Driver.{driver_status}
 use Rattle.flt_commands.specs.Outcomes.{files_status, printed}
 use Rattle.flt_commands.specs.declared.failure.Failure.{Failure}
@@ -22,42 +19,9 @@ use Rattle.flt_commands.specs.declared.answer.Answer.TheVariants.{Emitted, NotEm
 use Rattle.flt_commands.specs.declared.emit.EmitFault.{EmitFault}
 use Rattle.flt_commands.specs.declared.emit.EmitFault.TheVariants.{Kinds, Create, Return, Unread}
 
--- `R01` to `R15`
-abbrev pub rule_name : Rule → List ℕ
-rule_name r = codes "R" ++ ((if nat_lt (number r) 10 then codes "0" else []) ++ decimal (number r))
-
--- where a text is refused
-abbrev pub place : Refusal → List ℕ
-place f = codes "callback " ++ decimal f.callback ++ codes " point " ++ decimal f.point ++ codes " line " ++ decimal f.line
-
--- the rule that it breaks, in words
-abbrev pub broken : Rule → List ℕ
-broken r = rule_name r ++ codes " " ++ text r
-
--- a refusal
-abbrev pub refusal_line : Refusal → List ℕ
-refusal_line f = codes "refused " ++ place f ++ codes " " ++ broken f.rule
-
--- the same of one of several files
+-- a refusal of one of several files
 abbrev pub file_refusal_line : ℕ → Refusal → List ℕ
-file_refusal_line file f = codes "refused file " ++ decimal file ++ codes " " ++ place f ++ codes " " ++ broken f.rule
-
--- the number of a violation
-abbrev pub violation_number : Violation → ℕ
-violation_number V1 = 1
-violation_number V2 = 2
-violation_number V3 = 3
-violation_number V4 = 4
-violation_number V5 = 5
-violation_number V6 = 6
-violation_number V7 = 7
-violation_number V8 = 8
-
--- what is said of a journal
-abbrev pub verdict_line : Verdict → List ℕ
-verdict_line Legal = codes "legal"
-verdict_line (NotARun n) = codes "not a run at " ++ decimal n
-verdict_line (Breaks v n) = codes "breaks V" ++ decimal (violation_number v) ++ codes " at " ++ decimal n
+file_refusal_line file f = codes "refused file " ++ decimal file ++ codes " " ++ refusal_words f
 
 -- a context that is set in these two lines
 abbrev pub mixture : ℕ → ℕ → List ℕ

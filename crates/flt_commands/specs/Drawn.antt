@@ -1,6 +1,6 @@
 -- What is written under the name of a picture. This project's own program.
 use Rattle.std.specs.Prelude.{◌≡◌, List, Option, Some, None, Result, IfOk}
-use Rattle.flt_stack_prepare.specs.Texts.{AreSpelled}
+use Rattle.flt_syntax.specs.Texts.{AreSpelled}
 use Rattle.flt_model.specs.declared.verdict.Verdict.{Verdict}
 use Rattle.flt_explain_picture.specs.Pictures.{IsPicture}
 use Rattle.flt_explain_picture.specs.Titles.{title_of}

@@ -6,7 +6,7 @@ use Rattle.flt_graph.specs.declared.graph.Graph.{Graph}
 use Rattle.flt_cert.specs.Spelling.{is_cert, spelling}
 use Rattle.flt_cert.specs.declared.cert.Cert.{Cert}
 use Rattle.flt_check.specs.Accepting.{CertCovers}
-use Rattle.flt_check.specs.declared.checker.Refusal.{Refusal}
+use Rattle.flt_rules.specs.declared.refusal.Refusal.{Refusal}
 use Rattle.flt_emit.specs.Files.{installation, user_header}
 use Rattle.flt_emit.specs.Source.{source}
 use Rattle.flt_emit.specs.declared.scope.Allocation.{Allocation}

@@ -7,6 +7,8 @@ use Rattle.flt_words.specs.Shown.{visible}
 use Rattle.flt_syntax.specs.declared.fault.ParseError.{ParseError}
 use Rattle.flt_syntax.specs.declared.fault.SyntaxFault.{SyntaxFault}
 use Rattle.flt_syntax.specs.declared.fault.ParseError.TheVariants as parse
+use Rattle.flt_syntax.specs.declared.texts.TextsFault.{TextsFault}
+use Rattle.flt_syntax.specs.declared.texts.TextsFault.TheVariants as texts
 use Rattle.flt_cert.specs.declared.fault.CertFault.{CertFault}
 use Rattle.flt_cert.specs.declared.fault.CertFault.TheVariants as cert
 use Rattle.flt_commands.specs.declared.failure.Failure.{Failure}
@@ -22,6 +24,11 @@ of_certificate cert.OutOfMemory = OutOfMemory
 abbrev pub of_parse : ParseError → Failure
 of_parse (parse.Syntax f) = Syntax f
 of_parse parse.OutOfMemory = OutOfMemory
+
+-- how a fault of one of several texts is reported
+abbrev pub of_texts : TextsFault → Failure
+of_texts (texts.Syntax number f) = FileSyntax number f
+of_texts texts.OutOfMemory = OutOfMemory
 
 -- the first fault of the text of a file of several
 abbrev pub file_syntax_line : ℕ → SyntaxFault → List ℕ

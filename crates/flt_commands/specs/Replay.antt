@@ -1,6 +1,6 @@
 -- What `replay` says. This project's own program.
-use Rattle.std.specs.Prelude.{◌≡◌, ℕ, ◌≤◌, ◌<◌, List, ◌∷◌, length, Result, Ok, Err, [], Bool, false, Option, Some}
-use Rattle.flt_stack_prepare.specs.Texts.{AreSpelled, IsSyntaxFault}
+use Rattle.std.specs.Prelude.{◌≡◌, ◌≤◌, ◌<◌, List, ◌∷◌, length, Result, Ok, Err, [], Bool, false, Option, Some}
+use Rattle.flt_syntax.specs.Texts.{AreSpelled, IsSyntaxFault}
 use Rattle.flt_tree.specs.declared.filter.Filter.{Filter}
 use Rattle.flt_model.specs.Expansion.{verdict}
 use Rattle.flt_model.specs.JournalText.{Entries, IsJournal, IsFirstFault, spelling}
@@ -13,14 +13,6 @@ use Rattle.flt_commands.specs.declared.failure.Failure.{Failure}
 use Rattle.flt_commands.specs.declared.failure.Failure.TheVariants.{CannotWrite, TooManyFiles, FileSyntax}
 use Rattle.flt_commands.specs.declared.failure.Failure.TheVariants.{JournalLine, Altitude, OutOfMemory}
 use Rattle.flt_rules.specs.Limits.{max_filters}
-
--- ---- the filters
-
--- memory ran out, or the texts have this failure
-abbrev pub TextsFail : List Text → Failure → Type 0
-TextsFail texts OutOfMemory = Unit {0}
-TextsFail texts (FileSyntax number f) = IsSyntaxFault texts number f
-TextsFail texts _ = ⊥
 
 -- ---- the journal
 

@@ -2,15 +2,15 @@
 
 ghost use Rattle.std.specs.Prelude.{◌≡◌, ◌≢◌, [], ◌∷◌, ◌++◌, Some, IfOk, string_bytes};
 ghost use Rattle.flt_commands.specs.Answer as spec;
+ghost use Rattle.flt_model.specs.Verdicts.{verdict_line};
 
 use crate::driver::{Driver, driver_status};
 use crate::emit::EmitFault;
 use crate::outcomes::{Outcomes, files_status, printed_files};
-use flt_check::Refusal;
 use flt_explain_forms::UnreadFile;
 use flt_explain_runs::ExplainOutput;
-use flt_model::{Verdict, Violation};
-use flt_rules::{Rule, number, text};
+use flt_model::Verdict;
+use flt_rules::Refusal;
 use flt_stack_crew::{Ending, Ran};
 use flt_words::FormatMode;
 use std::alloc::{AllocError, Global};
@@ -120,18 +120,11 @@ impl Answer {
             Answer::Shown(rows, verdict) => return shown(alloc, rows, verdict),
             Answer::Pages(pages) => pages.as_slice().join(alloc, "\n")?,
             Answer::Accepted => String::from_str(alloc, "accepted\n")?,
-            Answer::Refused(refusal) => {
-                let line = RefusalLine(refusal);
-                format!(in alloc; "{line}\n")?
-            }
+            Answer::Refused(refusal) => { format!(in alloc; "refused {refusal}\n")? }
             Answer::FileRefused(file, refusal) => {
-                let line = FileRefusalLine(file, refusal);
-                format!(in alloc; "{line}\n")?
+                format!(in alloc; "refused file {file} {refusal}\n")?
             }
-            Answer::Judged(verdict) => {
-                let line = VerdictLine(verdict);
-                format!(in alloc; "{line}\n")?
-            }
+            Answer::Judged(verdict) => { format!(in alloc; "{verdict}\n")? }
             Answer::NotEmitted(why) => {
                 let line = unemitted_line(alloc, why)?;
                 format!(in alloc; "{line}\n")?
@@ -163,119 +156,12 @@ fn ended_status(ending: Ending) -> u8
 
 /// The rows of a journal, and the verdict about it after them.
 fn shown(alloc: Global, rows: Vec<u8>, verdict: Verdict) -> Result<Vec<u8>, AllocError>
-    ensures { IfOk result (λ bytes. bytes.items ≡ rows.items ++ (spec.verdict_line verdict ++ 10 ∷ [])) }
+    ensures { IfOk result (λ bytes. bytes.items ≡ rows.items ++ (verdict_line verdict ++ 10 ∷ [])) }
 {
-    let line = VerdictLine(verdict);
-    let line = format!(in alloc; "{line}\n")?;
+    let line = format!(in alloc; "{verdict}\n")?;
     let mut bytes = rows;
     bytes.extend_from_slice(line.as_bytes())?;
     Ok(bytes)
-}
-
-/// `R01` to `R15`.
-#[derive(Drop)]
-struct RuleName(Rule);
-
-impl fmt::Display for RuleName {
-    ghost output = { λ r. Some (spec.rule_name r.0) };
-
-    fn fmt<W: fmt::Write>(&self, f: &mut fmt::Formatter<W>) -> fmt::Result {
-        let number = number(self.0);
-        let zero = if number < 10 { "0" } else { "" };
-        write!(f, "R{zero}{number}")
-    }
-}
-
-/// The place where a text is refused.
-#[derive(Drop)]
-struct Place(Refusal);
-
-impl fmt::Display for Place {
-    ghost output = { λ r. Some (spec.place r.0) };
-
-    fn fmt<W: fmt::Write>(&self, f: &mut fmt::Formatter<W>) -> fmt::Result {
-        let callback = self.0.callback;
-        let point = self.0.point;
-        let line = self.0.line;
-        write!(f, "callback {callback} point {point} line {line}")
-    }
-}
-
-/// The rule that a text breaks, in words.
-#[derive(Drop)]
-struct BrokenRule(Rule);
-
-impl fmt::Display for BrokenRule {
-    ghost output = { λ r. Some (spec.broken r.0) };
-
-    fn fmt<W: fmt::Write>(&self, f: &mut fmt::Formatter<W>) -> fmt::Result {
-        let rule = RuleName(self.0);
-        let words = text(self.0);
-        write!(f, "{rule} {words}")
-    }
-}
-
-/// A refusal, as it is printed.
-#[derive(Drop)]
-struct RefusalLine(Refusal);
-
-impl fmt::Display for RefusalLine {
-    ghost output = { λ r. Some (spec.refusal_line r.0) };
-
-    fn fmt<W: fmt::Write>(&self, f: &mut fmt::Formatter<W>) -> fmt::Result {
-        let place = Place(self.0);
-        let rule = BrokenRule(self.0.rule);
-        write!(f, "refused {place} {rule}")
-    }
-}
-
-/// The same for one of several files.
-#[derive(Drop)]
-struct FileRefusalLine(usize, Refusal);
-
-impl fmt::Display for FileRefusalLine {
-    ghost output = { λ r. Some (spec.file_refusal_line r.0 r.1) };
-
-    fn fmt<W: fmt::Write>(&self, f: &mut fmt::Formatter<W>) -> fmt::Result {
-        let file = self.0;
-        let place = Place(self.1);
-        let rule = BrokenRule(self.1.rule);
-        write!(f, "refused file {file} {place} {rule}")
-    }
-}
-
-/// A verdict, as it is printed.
-#[derive(Drop)]
-struct VerdictLine(Verdict);
-
-fn violation_number(violation: Violation) -> u8
-    ensures { result ≡ spec.violation_number violation }
-{
-    match violation {
-        Violation::V1 => 1,
-        Violation::V2 => 2,
-        Violation::V3 => 3,
-        Violation::V4 => 4,
-        Violation::V5 => 5,
-        Violation::V6 => 6,
-        Violation::V7 => 7,
-        Violation::V8 => 8,
-    }
-}
-
-impl fmt::Display for VerdictLine {
-    ghost output = { λ v. Some (spec.verdict_line v.0) };
-
-    fn fmt<W: fmt::Write>(&self, f: &mut fmt::Formatter<W>) -> fmt::Result {
-        match self.0 {
-            Verdict::Legal => write!(f, "legal"),
-            Verdict::NotARun(entry) => write!(f, "not a run at {entry}"),
-            Verdict::Breaks(violation, entry) => {
-                let number = violation_number(violation);
-                write!(f, "breaks V{number} at {entry}")
-            }
-        }
-    }
 }
 
 /// The words on a context that is set in these two lines: on a stream, and on the instance.

@@ -7,7 +7,7 @@ use crate::report::Contents;
 use flt_explain_waits::{BlockedActivation, waits_of};
 use flt_model::{Journal, JournalFault, read};
 use flt_stack_crew::{Ending, Ran, Watch};
-use flt_syntax::{ParseError, parse};
+use flt_syntax::{TextsFault, parse_all};
 use flt_tree::{Callback, Filter, Span, Tree};
 use std::alloc::{AllocError, Global};
 use std::fmt::Write;
@@ -26,15 +26,11 @@ fn journal_of(alloc: Global, ran: &Ran) -> Result<Option<Journal>, AllocError> {
 
 /// The trees of some texts, each of which has one.
 fn trees_of(alloc: Global, texts: &[Vec<u8>]) -> Result<Vec<Tree>, AllocError> {
-    let mut trees = Vec::new(alloc);
-    for text in texts {
-        match parse(alloc, text.as_slice()) {
-            Ok(tree) => trees.push(tree)?,
-            Err(ParseError::OutOfMemory) => return Err(AllocError),
-            Err(ParseError::Syntax(_)) => {}
-        }
+    match parse_all(alloc, texts) {
+        Ok(trees) => Ok(trees),
+        Err(TextsFault::OutOfMemory) => Err(AllocError),
+        Err(TextsFault::Syntax { .. }) => Ok(Vec::new(alloc)),
     }
-    Ok(trees)
 }
 
 /// The number of filters above an altitude.

@@ -36,8 +36,7 @@ use flt_explain_runs::{
 };
 use flt_explain_warning_details::WarningOptions;
 use flt_joined::{GivenFile, JoinedTexts, join, source_files};
-use flt_model::Sink;
-use flt_stack_prepare::journal_bytes;
+use flt_model::{Sink, journal_bytes};
 use flt_words::{Form, visible};
 use sqlite_items::Items;
 use std::alloc::{AllocError, Global};

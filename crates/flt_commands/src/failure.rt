@@ -8,7 +8,7 @@ use crate::unwritten::OutputFault;
 use flt_c::Flaw;
 use flt_cert::CertFault;
 use flt_explain_details::SyntaxLine;
-use flt_syntax::{ParseError, SyntaxFault};
+use flt_syntax::{ParseError, SyntaxFault, TextsFault};
 use flt_words::visible;
 use std::alloc::{AllocError, AllocFailed, Global};
 use std::fmt;
@@ -124,6 +124,17 @@ impl From<ParseError> for Failure<'_> {
         match fault {
             ParseError::Syntax(fault) => Failure::Syntax(fault),
             ParseError::OutOfMemory => Failure::OutOfMemory,
+        }
+    }
+}
+
+impl From<TextsFault> for Failure<'_> {
+    ghost from_gives = { λ e f. f ≡ spec.of_texts e };
+
+    fn from(fault: TextsFault) -> Self {
+        match fault {
+            TextsFault::Syntax { number, fault } => Failure::FileSyntax(number, fault),
+            TextsFault::OutOfMemory => Failure::OutOfMemory,
         }
     }
 }

@@ -2,7 +2,7 @@
 
 ghost use Rattle.std.specs.Prelude.{◌≡◌, ◌∷◌, List, ℕ, None, IfOk, IfErr, map};
 ghost use Rattle.flt_model.specs.JournalText.{IsJournal, spelling};
-ghost use Rattle.flt_stack_prepare.specs.Texts.{AreSpelled};
+ghost use Rattle.flt_syntax.specs.Texts.{AreSpelled};
 ghost use Rattle.flt_replay.specs.Judging.{filters_of};
 ghost use Rattle.flt_commands.specs.Commands.{IsKeptAs};
 ghost use Rattle.flt_commands.specs.Inputs.{Says};
@@ -18,26 +18,8 @@ use crate::report::Contents;
 use flt_model::{Journal, JournalFault, Verdict, first_repeated, read};
 use flt_replay::replay;
 use flt_rules::MAX_FILTERS;
-use flt_syntax::{ParseError, Tree, parse};
+use flt_syntax::{Tree, parse_all};
 use std::alloc::Global;
-
-// ---- the filters
-
-/// The trees of the texts, in order.
-fn parse_all<'a>(alloc: Global, texts: &[Vec<u8>]) -> Result<Vec<Tree>, Failure<'a>>
-    ensures ok { IfOk result (λ trees. AreSpelled (map (λ text. text.items) texts.now) (filters_of trees.items)) }
-    ensures err { IfErr result (spec.TextsFail (map (λ text. text.items) texts.now)) }
-{
-    let mut trees = Vec::new(alloc);
-    for (number, text) in texts.iter().enumerate() {
-        match parse(alloc, text.as_slice()) {
-            Ok(tree) => trees.push(tree)?,
-            Err(ParseError::Syntax(fault)) => return Err(Failure::FileSyntax(number, fault)),
-            Err(ParseError::OutOfMemory) => return Err(Failure::OutOfMemory),
-        }
-    }
-    Ok(trees)
-}
 
 // ---- the journal
 

@@ -16,6 +16,7 @@ use Rattle.flt_tree.specs.declared.filter.FallibleCall.TheVariants as fallible
 use Rattle.flt_tree.specs.declared.filter.Filter.{Filter}
 use Rattle.flt_tree.specs.declared.filter.PlainCall.{PlainCall}
 use Rattle.flt_tree.specs.declared.filter.PlainCall.TheVariants as plain
+use Rattle.flt_tree.specs.declared.filter.Routine.{Routine}
 use Rattle.flt_tree.specs.declared.filter.Statement.{Statement}
 use Rattle.flt_tree.specs.declared.filter.Status.{Status}
 use Rattle.flt_tree.specs.declared.variable.Atom.{Atom}
@@ -35,7 +36,9 @@ use Rattle.flt_model.specs.Returns.{returned, returns}
 use Rattle.flt_model.specs.Steps.{plain_step, fallible_step}
 use Rattle.flt_model.specs.Variables.{context_in, operation_in, named_in, with_old}
 use Rattle.flt_costs.specs.Costs.{left_in}
-use Rattle.flt_model.specs.World.{World, Activation, Entry, Link, activation_at, actor_at, arrival_of}
+use Rattle.flt_model.specs.declared.parts.Entry.{Entry}
+use Rattle.flt_model.specs.declared.parts.Link.{Link}
+use Rattle.flt_model.specs.World.{World, Activation, activation_at, actor_at, arrival_of}
 use Rattle.flt_model.specs.World.{context_at, is_attached, linked_at, presence_at, queue_at}
 
 left_by : (b : Bool) (n : ℕ) → (if b then 0 else n) ≤ n
@@ -214,7 +217,7 @@ module _ (w : World) (a n : ℕ) where
     queue_to routine grant None = if_to grant _ _ (goes _ g) (goes _ r)
 
     -- a call that can fail
-    pub fallible_to : (p : List Filter) (t : List Event) (grant : Bool) (c : FallibleCall) →
+    pub fallible_to : (p : List Filter) (t : List Event) (grant : Bool) (c : FallibleCall Routine) →
         To (fallible_step p t w a grant granted refused c)
     fallible_to p t grant (fallible.AllocateContext d) = allocate_to d grant
     fallible_to p t grant (fallible.GetContext on d) = get_by_to d (link_of w.store own_filter on (operation_in here Data))

@@ -1,4 +1,3 @@
-mod Costs
 mod Leaving
 mod Spending
 mod Starting

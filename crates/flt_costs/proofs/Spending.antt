@@ -23,9 +23,10 @@ use Rattle.flt_model.specs.Steps.{statement_step, list_step, board, moved_on, lo
 use Rattle.flt_model.specs.Variables.{context_in, operation_in}
 use Rattle.flt_model.specs.World.{World, Activation, activation_at, actor_at}
 use Rattle.flt_costs.specs.Costs.{left_in, Spends}
-use Rattle.flt_costs.proofs.Costs.{cost_cons, cost_append, layer_cost, IsCheaper, local_cheaper}
-use Rattle.flt_costs.proofs.Leaving.{left_below, Leaves, leaves_more, plain_to, value_read, value_written}
-use Rattle.flt_costs.proofs.Leaving.{file_read, irp_tested, fallible_to, returns_leaves}
+use Rattle.flt_costs.proofs.Leaving.{left_below, Leaves, leaves_more, plain_to, value_read, value_written, file_read, irp_tested}
+use Rattle.flt_costs.proofs.Leaving.{fallible_to, returns_leaves}
+use Rattle.flt_model.proofs.LocalCosts.{IsCheaper, local_cheaper}
+use Rattle.flt_tree.proofs.Costs.{cost_cons, cost_append, layer_cost}
 
 -- ---- steps that others see
 

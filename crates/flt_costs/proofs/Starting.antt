@@ -14,7 +14,11 @@ use Rattle.flt_model.specs.Effects.{Step}
 use Rattle.flt_model.specs.Moves.{calls_pre, pre_at, skip_at, lower_at, last_frame, pre_of, post_of, post_by, post_at, fits_mode, is_done}
 use Rattle.flt_model.specs.Moves.{is_entry_of, canceled_by, work_of, work_by, is_frame_of, drain_by, unlink_by, is_drained, make}
 use Rattle.flt_model.specs.Program.{callbacks_at, filter_of, is_pre_of, is_post_of, is_canceled, body_of, body_for, body_at}
-use Rattle.flt_model.specs.World.{World, Entry, Frame, Item, Position, Down, Visiting, Up, Route, arrival_at, is_attached}
+use Rattle.flt_model.specs.declared.parts.Entry.{Entry}
+use Rattle.flt_model.specs.declared.parts.Item.{Item}
+use Rattle.flt_model.specs.declared.parts.Position.{Position}
+use Rattle.flt_model.specs.declared.parts.Position.TheVariants.{Down, Visiting, Up}
+use Rattle.flt_model.specs.World.{World, Frame, Route, arrival_at, is_attached}
 use Rattle.flt_model.specs.World.{is_detaching, item_at, linked_at, presence_at, queue_at, route_at}
 use Rattle.flt_costs.specs.Costs.{HasStarted}
 

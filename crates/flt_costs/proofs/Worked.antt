@@ -6,7 +6,7 @@ use Rattle.flt_tree.specs.declared.filter.Statement.TheVariants as tree
 use Rattle.flt_tree.specs.declared.variable.Atom.TheVariants as atom
 use Rattle.flt_tree.specs.declared.variable.Expression.TheVariants as expression
 use Rattle.flt_tree.specs.declared.variable.NumberVariable.TheVariants.{N0}
-use Rattle.flt_costs.proofs.Costs.{act_cost, cost_cons, repeat_cost}
+use Rattle.flt_tree.proofs.Costs.{act_cost, cost_cons, repeat_cost}
 use Rattle.flt_model.specs.WorkedParts.{here}
 use Rattle.flt_costs.specs.Costs.{callback_cost, steps_of}
 use Rattle.flt_costs.specs.WorkedCosts.{block, body, turns, interleaved}

@@ -9,6 +9,7 @@ use Rattle.flt_tree.specs.declared.filter.Condition.{Condition}
 use Rattle.flt_tree.specs.declared.filter.Condition.TheVariants as made
 use Rattle.flt_tree.specs.declared.filter.FallibleCall.{FallibleCall}
 use Rattle.flt_tree.specs.declared.filter.FallibleCall.TheVariants as fallible
+use Rattle.flt_tree.specs.declared.filter.Routine.{Routine}
 use Rattle.flt_tree.specs.declared.filter.Test.{Test}
 use Rattle.flt_tree.specs.declared.filter.Test.TheVariants.{ContextIsSome, OperationIsSome, Equal, Less, IsIrp, IsDraining}
 use Rattle.flt_tree.specs.declared.variable.Atom.{Atom}
@@ -110,7 +111,7 @@ generic place routine c =
     joined (codes "QueueGeneric( " ∷ instance place ∷ codes ", Generic_" ∷ routine ∷ codes ", " ∷ context_or_null c ∷ [])
 
 -- the call, which answers an NTSTATUS
-abbrev pub fallible_text : Scope → ℕ → FallibleCall → Text
+abbrev pub fallible_text : Scope → ℕ → FallibleCall Routine → Text
 fallible_text scope point (fallible.AllocateContext c) =
     joined (codes "AllocateContext( " ∷ context_type (allocates_for_instance scope point) ∷ codes ", &" ∷ context_name c ∷ [])
 fallible_text scope point (fallible.GetContext anchor c) =

@@ -13,6 +13,7 @@ use Rattle.flt_tree.specs.declared.filter.FallibleCall.{FallibleCall}
 use Rattle.flt_tree.specs.declared.filter.FallibleCall.TheVariants as fallible
 use Rattle.flt_tree.specs.declared.filter.PlainCall.{PlainCall}
 use Rattle.flt_tree.specs.declared.filter.PlainCall.TheVariants as plain
+use Rattle.flt_tree.specs.declared.filter.Routine.{Routine}
 use Rattle.flt_tree.specs.declared.filter.Statement.{Statement}
 use Rattle.flt_tree.specs.declared.filter.Statement.TheFolds.{fold-Statement}
 use Rattle.flt_tree.specs.declared.filter.Statement.TheOpen.{Statement-F}
@@ -99,7 +100,7 @@ in_test (use_of.Operation d) (OperationIsSome o) = same_operation d (Removed o)
 in_test _ test = false
 
 -- whether a call names the context
-abbrev pub names_context : ContextVariable → FallibleCall → Bool
+abbrev pub names_context : ContextVariable → FallibleCall Routine → Bool
 names_context c (fallible.AllocateContext d) = same_context c d
 names_context c (fallible.GetContext anchor d) = same_context c d
 names_context c (fallible.SetContext anchor existing d old) = same_context c d || is_context c old
@@ -110,11 +111,11 @@ names_context c (fallible.QueueDeferredIoWorkItem r d) = is_context c d
 names_context c (fallible.QueueGenericWorkItem r d) = is_context c d
 
 -- whether a call removes an operation from the queue into the variable
-abbrev pub removes : OperationVariable → FallibleCall → Bool
+abbrev pub removes : OperationVariable → FallibleCall Routine → Bool
 removes d (fallible.RemoveNextIo o c) = same_operation d (Removed o)
 removes d call = false
 
-abbrev pub in_fallible : Use → FallibleCall → Bool
+abbrev pub in_fallible : Use → FallibleCall Routine → Bool
 in_fallible (use_of.Context c) call = names_context c call
 in_fallible (use_of.Operation d) call = removes d call
 in_fallible _ call = false

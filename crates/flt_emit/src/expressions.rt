@@ -13,7 +13,7 @@ use crate::scope::Scope;
 use flt_rules::{Anchor, Place};
 use flt_tree::{
     Atom, Condition, ContextVariable, Expression, FallibleCall, NumberVariable, OperationVariable,
-    RemovedVariable, Test,
+    RemovedVariable, Routine, Test,
 };
 use std::alloc::AllocError;
 
@@ -218,7 +218,7 @@ fn fallible_call(
     out: &mut Vec<u8>,
     scope: &Scope<'_>,
     point: usize,
-    call: &FallibleCall,
+    call: &FallibleCall<Routine>,
 ) -> Result<(), AllocError>
     ensures { OnOk result (out.new.items ≡ out.old.items ++ spec.fallible_text (scope_of scope.now) point call.now) }
 {

@@ -5,6 +5,7 @@ ghost use Rattle.std.specs.Prelude.{◌≡◌, ◌<◌, ◌+◌, [], ◌∷◌, 
 
 use crate::names::number_name;
 use flt_tree::Atom;
+use itoa::Buffer;
 use std::alloc::AllocError;
 
 /// Text, unchanged.
@@ -24,24 +25,12 @@ fn begin(out: &mut Vec<u8>, level: usize) -> Result<(), AllocError>
     Ok(())
 }
 
-fn digit(out: &mut Vec<u8>, digit: u8) -> Result<(), AllocError>
-    requires { digit < 10 }
-    ensures { OnOk result (out.new.items ≡ out.old.items ++ (48 + digit) ∷ []) }
-{
-    out.push(b'0' + digit)?;
-    Ok(())
-}
-
 /// The digits of a number.
-#[tactic(auto, using(std::proofs::lemmas::Fmt::decimal_digit))]
 fn number(out: &mut Vec<u8>, n: u64) -> Result<(), AllocError>
     ensures { OnOk result (out.new.items ≡ out.old.items ++ decimal n) }
 {
-    if n < 10 {
-        return digit(out, n as u8);
-    }
-    number(out, n / 10)?;
-    digit(out, (n % 10) as u8)
+    let mut buffer = Buffer::new();
+    out.extend_from_slice(buffer.format(n).as_bytes())
 }
 
 /// Texts, one after the other.

@@ -1,7 +1,7 @@
 //! Writes the C source of a filter.
 
 ghost use Rattle.flt_emit.specs.Source as spec;
-ghost use Rattle.flt_tree.specs.Registered.{has_post, is_post_of};
+ghost use Rattle.flt_tree.specs.Registered.{has_post};
 ghost use Rattle.std.specs.Prelude.{◌≡◌, ◌++◌, flat_map, IfOk, OnOk};
 
 use crate::callbacks::{callbacks, prototypes};
@@ -103,19 +103,10 @@ fn locks_discarded(out: &mut Vec<u8>, mut locks: &[Lock]) -> Result<(), AllocErr
     Ok(())
 }
 
-fn is_post_of(operation: Operation, head: &Head) -> bool
-    ensures { result ≡ is_post_of operation head.now }
-{
-    match head {
-        Head::Post(found) => found.is_same(operation),
-        _ => false,
-    }
-}
-
 fn has_post(callbacks: &[Callback], operation: Operation) -> bool
     ensures { result ≡ has_post callbacks.now operation }
 {
-    callbacks.iter().any(|c| is_post_of(operation, &c.head))
+    callbacks.iter().any(|c| c.head.is_post_of(operation))
 }
 
 /// The row of an operation, with its post callback or without.

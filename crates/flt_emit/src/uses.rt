@@ -7,7 +7,7 @@ use crate::expressions::{is_variable, is_zero};
 use flt_rules::LockNumber;
 use flt_tree::{
     Action, Condition, ContextVariable, Expression, FallibleCall, NumberVariable,
-    OperationVariable, PlainCall, Statement, Status, Test,
+    OperationVariable, PlainCall, Routine, Statement, Status, Test,
 };
 
 /// A variable or a lock that a body may use.
@@ -138,7 +138,7 @@ fn in_test(sought: Use, test: Test) -> bool
     }
 }
 
-fn names_context(c: ContextVariable, call: &FallibleCall) -> bool
+fn names_context(c: ContextVariable, call: &FallibleCall<Routine>) -> bool
     ensures { result ≡ spec.names_context c call.now }
 {
     match call {
@@ -154,7 +154,7 @@ fn names_context(c: ContextVariable, call: &FallibleCall) -> bool
 }
 
 /// Whether a call removes an operation from the queue into the variable.
-fn removes(d: OperationVariable, call: &FallibleCall) -> bool
+fn removes(d: OperationVariable, call: &FallibleCall<Routine>) -> bool
     ensures { result ≡ spec.removes d call.now }
 {
     match call {
@@ -163,7 +163,7 @@ fn removes(d: OperationVariable, call: &FallibleCall) -> bool
     }
 }
 
-fn in_fallible(sought: Use, call: &FallibleCall) -> bool
+fn in_fallible(sought: Use, call: &FallibleCall<Routine>) -> bool
     ensures { result ≡ spec.in_fallible sought call.now }
 {
     match sought {

@@ -151,7 +151,7 @@ module _ (at : Place) where
   unfolding delete_at
   delete_reads anchor old r = then_reads _ (anchor_reads anchor _) ∙ then_reads _ (address_reads old r)
 
-  queued_reads : (made : Routine → Option ContextVariable → FallibleCall) (name : Text) (c : Option ContextVariable) (r : Text) →
+  queued_reads : (made : Routine → Option ContextVariable → FallibleCall Routine) (name : Text) (c : Option ContextVariable) (r : Text) →
       is_name name ≡ true → queued_at made (name ++ (codes ", " ++ (context_or_null c ++ r))) ≡ Some (made (named name) c, r)
   unfolding queued_at
   queued_reads made name c r h =
@@ -164,7 +164,7 @@ module _ (at : Place) where
   allocate_reads false c r = then_reads _ (context_reads c r)
 
 module _ (scope : Scope) (queue : Bool) (point : ℕ) where
-  fallible_reads : (c : FallibleCall) (r : Text) → IsFallible queue c →
+  fallible_reads : (c : FallibleCall Routine) (r : Text) → IsFallible queue c →
       fallible_at scope.place (fallible_text scope point c ++ r) ≡ Some (call_without c, r)
   unfolding fallible_at set_at remove_at generic_at
   fallible_reads (fallible.AllocateContext c) r ok =

@@ -351,14 +351,14 @@ abbrev pub anchor_given : Place → Anchor → Text
 anchor_given at Stream = stream_given at
 anchor_given at Instance = instance at
 
-unfoldable pub get_at : Place → Anchor → Text → Front FallibleCall
+unfoldable pub get_at : Place → Anchor → Text → Front (FallibleCall Routine)
 get_at at anchor z = do
   z ← after (anchor_given at anchor) z
   z ← after (codes ", &") z
   c ← context_at z
   Some (fallible.GetContext anchor c.0, c.1)
 
-unfoldable pub set_at : Place → Anchor → Text → Front FallibleCall
+unfoldable pub set_at : Place → Anchor → Text → Front (FallibleCall Routine)
 set_at at anchor z = do
   z ← after (anchor_given at anchor) z
   z ← after (codes ", ") z
@@ -369,7 +369,7 @@ set_at at anchor z = do
   old ← address_at z
   Some (fallible.SetContext anchor existing.0 c.0 old.0, old.1)
 
-unfoldable pub delete_at : Place → Anchor → Text → Front FallibleCall
+unfoldable pub delete_at : Place → Anchor → Text → Front (FallibleCall Routine)
 delete_at at anchor z = do
   z ← after (anchor_given at anchor) z
   z ← after (codes ", ") z
@@ -380,14 +380,14 @@ abbrev pub named : Text → Routine
 named name = record { name = name; position = nowhere }
 
 -- a routine, and a context that goes with it
-unfoldable pub queued_at : (Routine → Option ContextVariable → FallibleCall) → Text → Front FallibleCall
+unfoldable pub queued_at : (Routine → Option ContextVariable → FallibleCall Routine) → Text → Front (FallibleCall Routine)
 queued_at made z = do
   name ← name_at z
   z ← after (codes ", ") name.1
   c ← optional_at z
   Some (made (named name.0) c.0, c.1)
 
-unfoldable pub remove_at : Text → Front FallibleCall
+unfoldable pub remove_at : Text → Front (FallibleCall Routine)
 remove_at z = do
   o ← removed_at z
   z ← after (codes ", &") o.1
@@ -398,23 +398,23 @@ remove_at z = do
 abbrev pub past_instance : Place → Text → Option Text
 past_instance at z = after (instance at) z >>= λ z. after (codes ", Generic_") z
 
-unfoldable pub generic_at : Place → Text → Front FallibleCall
+unfoldable pub generic_at : Place → Text → Front (FallibleCall Routine)
 generic_at at z = past_instance at z >>= λ z. queued_at fallible.QueueGenericWorkItem z
 
 -- the kind of a context that is allocated isn't in the tree
 abbrev pub past_kind : Text → Option Text
 past_kind z = or_else (after (codes "FLT_STREAM_CONTEXT, &") z) (λ rest. Some rest) (after (codes "FLT_INSTANCE_CONTEXT, &") z)
 
-unfoldable pub allocate_at : Text → Front FallibleCall
+unfoldable pub allocate_at : Text → Front (FallibleCall Routine)
 allocate_at z = do
   z ← past_kind z
   c ← context_at z
   Some (fallible.AllocateContext c.0, c.1)
 
-abbrev pub insert_at : Text → Front FallibleCall
+abbrev pub insert_at : Text → Front (FallibleCall Routine)
 insert_at z = optional_at z >>= λ c. Some (fallible.InsertIo c.0, c.1)
 
-unfoldable pub fallible_at : Place → Text → Front FallibleCall
+unfoldable pub fallible_at : Place → Text → Front (FallibleCall Routine)
 fallible_at at =
     by_form ((codes "AllocateContext( ", allocate_at)
     ∷ (codes "GetStreamContext( ", get_at at Stream) ∷ (codes "GetInstanceContext( ", get_at at Instance)

@@ -33,8 +33,8 @@ tested None = None
 tested (Some x) = Some ((x.0.0, made.Test x.0.1), x.1.now)
 
 -- a call that queues a routine
-abbrev pub queued_of : (Routine → Option ContextVariable → FallibleCall) → Option (Bor Text × Option ContextVariable × Bor Text) →
-    Front FallibleCall
+abbrev pub queued_of : (Routine → Option ContextVariable → FallibleCall Routine) → Option (Bor Text × Option ContextVariable × Bor Text) →
+    Front (FallibleCall Routine)
 queued_of made None = None
 queued_of made (Some x) = Some (made (named x.0.now) x.1, x.2.now)
 

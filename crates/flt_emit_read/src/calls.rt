@@ -48,7 +48,7 @@ fn given(place: Place, anchor: Anchor) -> &'static [u8]
 }
 
 #[tactic(auto, unfolding(crate::specs::Lines::get_at))]
-fn get(place: Place, anchor: Anchor, z: &[u8]) -> Option<(FallibleCall, &[u8])>
+fn get(place: Place, anchor: Anchor, z: &[u8]) -> Option<(FallibleCall<Routine>, &[u8])>
     ensures { front_of result ≡ spec.get_at place anchor z.now }
 {
     let z = after(given(place, anchor), z)?;
@@ -58,7 +58,7 @@ fn get(place: Place, anchor: Anchor, z: &[u8]) -> Option<(FallibleCall, &[u8])>
 }
 
 #[tactic(auto, unfolding(crate::specs::Lines::set_at))]
-fn set(place: Place, anchor: Anchor, z: &[u8]) -> Option<(FallibleCall, &[u8])>
+fn set(place: Place, anchor: Anchor, z: &[u8]) -> Option<(FallibleCall<Routine>, &[u8])>
     ensures { front_of result ≡ spec.set_at place anchor z.now }
 {
     let z = after(given(place, anchor), z)?;
@@ -72,7 +72,7 @@ fn set(place: Place, anchor: Anchor, z: &[u8]) -> Option<(FallibleCall, &[u8])>
 }
 
 #[tactic(auto, unfolding(crate::specs::Lines::delete_at))]
-fn delete(place: Place, anchor: Anchor, z: &[u8]) -> Option<(FallibleCall, &[u8])>
+fn delete(place: Place, anchor: Anchor, z: &[u8]) -> Option<(FallibleCall<Routine>, &[u8])>
     ensures { front_of result ≡ spec.delete_at place anchor z.now }
 {
     let z = after(given(place, anchor), z)?;
@@ -82,7 +82,7 @@ fn delete(place: Place, anchor: Anchor, z: &[u8]) -> Option<(FallibleCall, &[u8]
 }
 
 #[tactic(auto, unfolding(crate::specs::Lines::remove_at))]
-fn remove(z: &[u8]) -> Option<(FallibleCall, &[u8])>
+fn remove(z: &[u8]) -> Option<(FallibleCall<Routine>, &[u8])>
     ensures { front_of result ≡ spec.remove_at z.now }
 {
     let (o, z) = removed(z)?;
@@ -102,7 +102,7 @@ fn past_kind(z: &[u8]) -> Option<&[u8]>
 }
 
 #[tactic(auto, unfolding(crate::specs::Lines::allocate_at))]
-fn allocate(z: &[u8]) -> Option<(FallibleCall, &[u8])>
+fn allocate(z: &[u8]) -> Option<(FallibleCall<Routine>, &[u8])>
     ensures { front_of result ≡ spec.allocate_at z.now }
 {
     let z = past_kind(z)?;
@@ -123,7 +123,7 @@ fn queued(z: &[u8]) -> Option<(&[u8], Option<ContextVariable>, &[u8])>
 }
 
 /// A work item with the callback's operation.
-fn deferred(alloc: Global, z: &[u8]) -> Result<Option<(FallibleCall, &[u8])>, AllocError>
+fn deferred(alloc: Global, z: &[u8]) -> Result<Option<(FallibleCall<Routine>, &[u8])>, AllocError>
     ensures { IfOk result (λ found. front_of found ≡ spec.queued_at QueueDeferredIoWorkItem z.now) }
 {
     match queued(z) {
@@ -153,7 +153,7 @@ fn generic(
     alloc: Global,
     place: Place,
     z: &[u8],
-) -> Result<Option<(FallibleCall, &[u8])>, AllocError>
+) -> Result<Option<(FallibleCall<Routine>, &[u8])>, AllocError>
     ensures { IfOk result (λ found. front_of found ≡ spec.generic_at place z.now) }
 {
     match past_instance(place, z) {
@@ -172,7 +172,7 @@ fn generic(
     }
 }
 
-fn insert(z: &[u8]) -> Option<(FallibleCall, &[u8])>
+fn insert(z: &[u8]) -> Option<(FallibleCall<Routine>, &[u8])>
     ensures { front_of result ≡ spec.insert_at z.now }
 {
     let (c, rest) = optional(z)?;
@@ -185,7 +185,7 @@ fn fallible(
     alloc: Global,
     place: Place,
     z: &[u8],
-) -> Result<Option<(FallibleCall, &[u8])>, AllocError>
+) -> Result<Option<(FallibleCall<Routine>, &[u8])>, AllocError>
     ensures { IfOk result (λ found. front_of found ≡ spec.fallible_at place z.now) }
 {
     if let Some(z) = after(b"AllocateContext( ", z) {

@@ -2,7 +2,7 @@
 use Rattle.std.proofs.Common.{◌≡◌, ℕ, ◌-◌, List, [], Option, Some, None, length, refl, sym, ap, subst, ◌∙◌}
 use Rattle.std.specs.List.{position}
 use Rattle.flt_graph.specs.declared.graph.Graph.{Graph}
-use Rattle.flt_check.specs.declared.checker.Refusal.{Refusal}
+use Rattle.flt_rules.specs.declared.refusal.Refusal.{Refusal}
 use Rattle.flt_explain.specs.Findings.{Answers, IsRefused, is_refusal, with_in_front, with_first, found_from, AreFindings}
 use Rattle.flt_explain.specs.Walk.{walked_from}
 use Rattle.flt_explain.specs.declared.finding.Finding.{Finding}

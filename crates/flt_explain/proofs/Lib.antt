@@ -1,5 +1,4 @@
 pub mod Clearing
-pub mod Digits
 pub mod FilledSets
 pub mod FirstFindings
 pub mod Firsts
@@ -7,6 +6,5 @@ pub mod Gathering
 pub mod Looks
 pub mod MendedSets
 pub mod Reading
-pub mod SetDigits
 pub mod Steps
 pub mod Telling

@@ -21,6 +21,7 @@ use Rattle.flt_tree.specs.declared.filter.Test.TheVariants as test
 use Rattle.flt_tree.specs.declared.variable.ContextVariable.{ContextVariable}
 use Rattle.flt_tree.specs.declared.variable.OperationVariable.{OperationVariable}
 use Rattle.flt_tree.specs.declared.variable.OperationVariable.TheVariants.{Removed, Data}
+use Rattle.flt_graph.specs.Instruction.{roles}
 use Rattle.flt_graph.specs.declared.instruction.Instruction.{Instruction}
 use Rattle.flt_graph.specs.declared.instruction.Instruction.TheVariants as instruction
 use Rattle.flt_graph.specs.declared.instruction.Invocation.{Invocation}
@@ -118,7 +119,7 @@ is_return_about place x st _ _ = false
 -- whether a rule that an instruction breaks is broken by this operand
 abbrev pub is_about : Place → State → Instruction → Rule → Subject → Bool
 is_about place x (instruction.Act a next) r u = is_action_about a u
-is_about place x (instruction.Call c granted failed) r u = is_row_about (row c.call) place x c r u
+is_about place x (instruction.Call c granted failed) r u = is_row_about (row (roles c).call) place x (roles c) r u
 is_about place x (instruction.Test t granted failed) r u = is_test_about t u
 is_about place x (instruction.Repeat turns body next) r u = false
 is_about place x (instruction.Return st) r u = is_return_about place x st r u

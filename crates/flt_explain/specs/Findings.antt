@@ -5,7 +5,7 @@ use Rattle.flt_rules.specs.Rule.{number}
 use Rattle.flt_graph.specs.declared.graph.Graph.{Graph}
 use Rattle.flt_cert.specs.Format.{Certificate, is_certificate}
 use Rattle.flt_check.specs.Covering.{Covers}
-use Rattle.flt_check.specs.declared.checker.Refusal.{Refusal}
+use Rattle.flt_rules.specs.declared.refusal.Refusal.{Refusal}
 use Rattle.flt_analyse.specs.Least.{IsLeast, NoneCovers, IsNamed}
 use Rattle.flt_explain.specs.Walk.{walked_from}
 use Rattle.flt_explain.specs.declared.finding.Finding.{Finding}

@@ -7,6 +7,7 @@ use Rattle.flt_rules.specs.declared.columns.Effects.{Effects}
 use Rattle.flt_tree.specs.declared.filter.Action.{Action}
 use Rattle.flt_tree.specs.declared.filter.Action.TheVariants as action
 use Rattle.flt_tree.specs.declared.variable.OperationVariable.TheVariants.{Removed}
+use Rattle.flt_graph.specs.Instruction.{roles}
 use Rattle.flt_graph.specs.declared.instruction.Instruction.{Instruction}
 use Rattle.flt_graph.specs.declared.instruction.Instruction.TheVariants as instruction
 use Rattle.flt_graph.specs.declared.instruction.Invocation.{Invocation}
@@ -38,5 +39,5 @@ action_writes _ _ = false
 -- whether an instruction gives a variable a new status, where a call succeeds or where it fails
 abbrev pub writes : Instruction → Bool → Subject → Bool
 writes (instruction.Act a next) granted u = action_writes a u
-writes (instruction.Call c yes' no') granted u = effects_write (effects c granted) c u
+writes (instruction.Call c yes' no') granted u = effects_write (effects (roles c) granted) (roles c) u
 writes _ granted u = false

@@ -1,7 +1,6 @@
 //! Which operand of a point is at fault when it breaks a rule.
 
-ghost use Rattle.std.specs.Prelude.{◌≡◌, slice_index_or};
-ghost use Rattle.flt_abs.specs.Sets.{null_alone, status_bits};
+ghost use Rattle.std.specs.Prelude.{◌≡◌};
 ghost use Rattle.flt_abs.specs.Variables.{context_in, operation_in};
 ghost use Rattle.flt_abs.specs.Breaks as breaks;
 ghost use Rattle.flt_explain.specs.About as spec;
@@ -17,36 +16,28 @@ use flt_rules::{
 };
 use flt_tree::named_context;
 
-/// The bits of digits: held and stale of a variable, fast I/O, draining.
-const HELD: u8 = 2;
-
-const STALE: u8 = 4;
-
-const FAST: u8 = 2;
-
-const YES: u8 = 2;
-
 /// Whether a variable of contexts is the one that is named.
-pub(crate) fn is_context(named: Option<ContextVariable>, variable: ContextVariable) -> bool
+pub fn is_context(named: Option<ContextVariable>, variable: ContextVariable) -> bool
     ensures { result ≡ spec.is_context named variable }
 {
     match named {
-        Some(named) => named.place() == variable.place(),
+        Some(context) => context.place() == variable.place(),
         None => false,
     }
 }
 
 /// Whether a variable of operations is the one that is named.
-pub(crate) fn is_operation(named: Option<OperationVariable>, variable: OperationVariable) -> bool
+pub fn is_operation(named: Option<OperationVariable>, variable: OperationVariable) -> bool
     ensures { result ≡ spec.is_operation named variable }
 {
     match named {
-        Some(named) => named.place() == variable.place(),
+        Some(operation) => operation.place() == variable.place(),
         None => false,
     }
 }
 
-fn is_lock(named: Option<LockNumber>, lock: LockNumber) -> bool
+/// Whether a lock is the one that is named.
+pub fn is_lock(named: Option<LockNumber>, lock: LockNumber) -> bool
     ensures { result ≡ spec.is_lock named lock }
 {
     match named {
@@ -55,7 +46,8 @@ fn is_lock(named: Option<LockNumber>, lock: LockNumber) -> bool
     }
 }
 
-fn is_action_about(action: Action, subject: Subject) -> bool
+/// Whether a subject is an operand of an action.
+pub fn is_action_about(action: Action, subject: Subject) -> bool
     ensures { result ≡ spec.is_action_about action subject }
 {
     match (action, subject) {
@@ -80,48 +72,28 @@ fn is_test_about(test: Test, subject: Subject) -> bool
     }
 }
 
-/// The set at a place; NULL alone if it has none.
-#[tactic(auto, using(crate::proofs::Reading::found, crate::proofs::Reading::missing))]
-pub(crate) fn set_at(sets: &[Statuses], place: usize) -> Statuses
-    ensures { result ≡ slice_index_or sets.now place null_alone }
-{
-    match sets.get(place) {
-        Some(set) => *set,
-        None => Statuses::null(),
-    }
-}
-
-#[tactic(auto, using(crate::proofs::Digits::held_bit))]
-fn may_hold(set: Statuses) -> bool
-    ensures { result ≡ set.held }
-{
-    set.digit() & HELD == HELD
-}
-
 fn may_hold_context(state: &Abs, variable: ContextVariable) -> bool
     ensures { result ≡ (context_in state.now variable).held }
 {
-    may_hold(set_at(state.contexts(), variable.place()))
+    state.context(variable).has_held()
 }
 
 fn may_hold_operation(state: &Abs, variable: OperationVariable) -> bool
     ensures { result ≡ (operation_in state.now variable).held }
 {
-    may_hold(set_at(state.operations(), variable.place()))
+    state.operation(variable).has_held()
 }
 
-#[tactic(auto, using(crate::proofs::Digits::fast_bit))]
 fn may_be_fast(state: &Abs) -> bool
     ensures { result ≡ state.now.modes.fast }
 {
-    state.modes().digit() & FAST == FAST
+    state.modes().has_fast()
 }
 
-#[tactic(auto, using(crate::proofs::Digits::yes_bit))]
 fn may_be_draining(state: &Abs) -> bool
     ensures { result ≡ state.now.draining.yes }
 {
-    state.draining().digit() & YES == YES
+    state.draining().has_yes()
 }
 
 /// Whether a variable receives what a call gives, and may be held.
@@ -193,24 +165,22 @@ fn is_kept_operation(place: Place, state: &Abs, variable: OperationVariable) -> 
 }
 
 /// Whether the operation is surely held or given away, as a status needs it.
-#[tactic(auto, using(crate::proofs::Digits::held_digit, crate::proofs::Digits::stale_digit))]
 fn is_possessed(operation: Statuses, possession: Possession) -> bool
     ensures { result ≡ breaks.is_possessed operation possession }
 {
     match possession {
-        Possession::Held => operation.digit() == HELD,
-        Possession::GivenAway => operation.digit() == STALE,
+        Possession::Held => operation.is_held(),
+        Possession::GivenAway => operation.is_stale(),
     }
 }
 
 /// Whether the operation is surely of a mode, if one is needed.
-#[tactic(auto, using(crate::proofs::Digits::irp_digit, crate::proofs::Digits::fast_digit))]
 fn is_of_mode(modes: Modes, mode: Option<Mode>) -> bool
     ensures { result ≡ breaks.is_of_mode modes mode }
 {
     match mode {
-        Some(Mode::Irp) => modes.digit() == 1,
-        Some(Mode::Fast) => modes.digit() == 2,
+        Some(Mode::Irp) => modes.has_irp() && !modes.has_fast(),
+        Some(Mode::Fast) => modes.has_fast() && !modes.has_irp(),
         None => true,
     }
 }
@@ -221,8 +191,7 @@ fn is_status_about(row: &StatusRow, state: &Abs, subject: Subject) -> bool
 {
     match subject {
         Subject::Operation(OperationVariable::Data) => {
-            let place = OperationVariable::Data.place();
-            !is_possessed(set_at(state.operations(), place), row.data)
+            !is_possessed(state.operation(OperationVariable::Data), row.data)
         }
         Subject::Mode => !is_of_mode(state.modes(), row.mode),
         Subject::Draining => !row.in_draining && may_be_draining(state),
@@ -272,7 +241,8 @@ pub fn is_about(
     match instruction {
         Instruction::Act(action, _) => is_action_about(*action, subject),
         Instruction::Call(call, _, _) => {
-            is_row_about(&row(call.call), place, state, call, rule, subject)
+            let call = call.roles();
+            is_row_about(&row(call.call), place, state, &call, rule, subject)
         }
         Instruction::Test(test, _, _) => is_test_about(*test, subject),
         Instruction::Repeat(_, _, _) => false,

@@ -16,7 +16,7 @@ mod tell;
 mod walk;
 mod writes;
 
-pub use about::is_about;
+pub use about::{is_about, is_action_about, is_context, is_lock, is_operation};
 pub use at_point::faults;
 pub use finding::{Fault, Finding, Subject};
 pub use mending::mending_is_exact;

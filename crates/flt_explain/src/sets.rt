@@ -1,11 +1,10 @@
 //! The sets of a state in which broken rules were fixed. Unlike those of `Abs` they may be empty.
 
-ghost use Rattle.std.specs.Prelude.{◌≡◌, length, map};
+ghost use Rattle.std.specs.Prelude.{◌≡◌, length, map, slice_index_or};
 ghost use Rattle.flt_abs.specs.Sets as sets_spec;
 ghost use Rattle.flt_abs.specs.State.{either_all};
 ghost use Rattle.flt_explain.specs.Sets as spec;
 
-use crate::about::set_at;
 use crate::finding::{Fault, Subject};
 use crate::mending::{mended, mended_draining, mended_modes};
 use crate::operands::OPERANDS;
@@ -42,53 +41,11 @@ fn no_draining() -> Draining
     Draining::from_digit(0).unwrap()
 }
 
-#[tactic(auto, using(crate::proofs::SetDigits::either_statuses))]
-fn either_statuses(a: Statuses, b: Statuses) -> Statuses
-    ensures { result ≡ sets_spec.either_status a b }
-{
-    Statuses::from_low_bits(a.digit() | b.digit())
-}
-
-#[tactic(auto, using(crate::proofs::SetDigits::either_modes, crate::proofs::SetDigits::either_modes_low))]
-fn either_modes(a: Modes, b: Modes) -> Modes
-    ensures { result ≡ sets_spec.either_mode a b }
-{
-    Modes::from_digit(a.digit() | b.digit()).unwrap()
-}
-
-#[tactic(auto, using(crate::proofs::SetDigits::either_drainings, crate::proofs::SetDigits::either_drainings_low))]
-fn either_draining(a: Draining, b: Draining) -> Draining
-    ensures { result ≡ sets_spec.either_draining a b }
-{
-    Draining::from_digit(a.digit() | b.digit()).unwrap()
-}
-
-#[tactic(auto, using(crate::proofs::SetDigits::some_status))]
-fn is_possible(set: Statuses) -> bool
-    ensures { result ≡ sets_spec.is_possible set }
-{
-    set.digit() != 0
-}
-
-#[tactic(auto, using(crate::proofs::SetDigits::some_mode))]
-fn is_mode_possible(modes: Modes) -> bool
-    ensures { result ≡ sets_spec.is_mode_possible modes }
-{
-    modes.digit() != 0
-}
-
-#[tactic(auto, using(crate::proofs::SetDigits::some_draining))]
-fn is_draining_possible(draining: Draining) -> bool
-    ensures { result ≡ sets_spec.is_draining_possible draining }
-{
-    draining.digit() != 0
-}
-
 /// The set, or all statuses in place of none.
 fn or_all(set: Statuses) -> Statuses
     ensures { result ≡ spec.or_all set }
 {
-    if is_possible(set) {
+    if set.is_possible() {
         set
     } else {
         Statuses::from_low_bits(7)
@@ -99,7 +56,7 @@ fn or_all(set: Statuses) -> Statuses
 fn or_both(modes: Modes) -> Modes
     ensures { result ≡ spec.or_both modes }
 {
-    if is_mode_possible(modes) {
+    if modes.is_possible() {
         modes
     } else {
         Modes::from_digit(3).unwrap()
@@ -110,7 +67,7 @@ fn or_both(modes: Modes) -> Modes
 fn or_either(draining: Draining) -> Draining
     ensures { result ≡ spec.or_either draining }
 {
-    if is_draining_possible(draining) {
+    if draining.is_possible() {
         draining
     } else {
         Draining::from_digit(3).unwrap()
@@ -134,7 +91,7 @@ fn unite(into: &mut [Statuses], other: &[Statuses])
     ensures { into.new ≡ either_all into.old other.now }
 {
     for index in 0..into.len() {
-        into[index] = either_statuses(into[index], other[index]);
+        into[index] = into[index].union(other[index]);
     }
 }
 
@@ -144,6 +101,17 @@ fn fill(sets: &mut [Statuses])
 {
     for index in 0..sets.len() {
         sets[index] = or_all(sets[index]);
+    }
+}
+
+/// The set at a place; NULL alone if it has none.
+#[tactic(auto, using(crate::proofs::Reading::found, crate::proofs::Reading::missing))]
+fn set_at(sets: &[Statuses], place: usize) -> Statuses
+    ensures { result ≡ slice_index_or sets.now place sets_spec.null_alone }
+{
+    match sets.get(place) {
+        Some(set) => *set,
+        None => Statuses::null(),
     }
 }
 
@@ -169,10 +137,12 @@ impl Sets {
         ensures { result ≡ spec.tells self.now subject }
     {
         match subject {
-            Subject::Context(variable) => is_possible(set_at(&self.contexts, variable.place())),
-            Subject::Operation(variable) => is_possible(set_at(&self.operations, variable.place())),
-            Subject::Mode => is_mode_possible(self.modes),
-            Subject::Draining => is_draining_possible(self.draining),
+            Subject::Context(variable) => set_at(&self.contexts, variable.place()).is_possible(),
+            Subject::Operation(variable) => {
+                set_at(&self.operations, variable.place()).is_possible()
+            }
+            Subject::Mode => self.modes.is_possible(),
+            Subject::Draining => self.draining.is_possible(),
             Subject::Lock(_) | Subject::Call | Subject::Status => true,
         }
     }
@@ -265,8 +235,8 @@ impl Sets {
         Sets {
             contexts,
             operations,
-            modes: either_modes(self.modes, other.modes),
-            draining: either_draining(self.draining, other.draining),
+            modes: self.modes.union(other.modes),
+            draining: self.draining.union(other.draining),
         }
     }
 

@@ -60,7 +60,7 @@ pub(crate) fn writes(instruction: &Instruction, granted: bool, subject: Subject)
 {
     match instruction {
         Instruction::Act(action, _) => action_writes(*action, subject),
-        Instruction::Call(call, _, _) => call_writes(call, granted, subject),
+        Instruction::Call(call, _, _) => call_writes(&call.roles(), granted, subject),
         _ => false,
     }
 }

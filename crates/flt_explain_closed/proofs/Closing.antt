@@ -15,6 +15,7 @@ use Rattle.flt_tree.specs.declared.filter.Test.TheVariants as test
 use Rattle.flt_tree.specs.declared.variable.ContextVariable.{ContextVariable}
 use Rattle.flt_tree.specs.declared.variable.OperationVariable.{OperationVariable}
 use Rattle.flt_graph.specs.Graph.{place_at, instruction_at}
+use Rattle.flt_graph.specs.Instruction.{roles}
 use Rattle.flt_graph.specs.Points.{successor}
 use Rattle.flt_graph.specs.declared.graph.Graph.{Graph}
 use Rattle.flt_graph.specs.declared.instruction.Instruction.{Instruction}
@@ -85,8 +86,8 @@ free_acted a t = refl
 free_leaves : (i : Instruction) (outcome gives : Bool) (t : Situation) →
     seen false (leaves i outcome gives (seen false t)) ≡ seen false (leaves i outcome gives t)
 free_leaves (instruction.Act a next) outcome gives t = free_acted a t
-free_leaves (instruction.Call c granted refused) true gives t = free_called c (row c.call).on_ok gives t
-free_leaves (instruction.Call c granted refused) false gives t = free_failed c (row c.call).on_fail gives t
+free_leaves (instruction.Call c granted refused) true gives t = free_called (roles c) (row (roles c).call).on_ok gives t
+free_leaves (instruction.Call c granted refused) false gives t = free_failed (roles c) (row (roles c).call).on_fail gives t
 free_leaves (instruction.Test f granted refused) outcome gives t = refl
 free_leaves (instruction.Repeat turns block next) outcome gives t = refl
 free_leaves (instruction.Return status) outcome gives t = refl

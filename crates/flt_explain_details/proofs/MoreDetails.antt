@@ -47,7 +47,8 @@ the_same : {A : Type 0} (xs : List A) (n k : ℕ) (x y : A) → slice_get xs n �
 the_same xs n k x y is at there = let here = subst (λ m. slice_get xs m ≡ Some y) at there in cc
 
 -- the next finding, by what shows it
-pub one_detail_more : (files : Files) (lines text : Text) (f : Filter) (g : Graph) (found : List Finding) (shown : List FindingTrace) (n : ℕ)
+pub one_detail_more : (files : Files) (lines text : Text) (f : Filter) (g : Graph)
+    (found : List Finding) (shown : List FindingTrace) (n : ℕ)
     (e : Finding)
     (s : FindingTrace) (d : Detail) (all more : List Detail) →
     lines ≡ text → n ≡ length all → slice_get found n ≡ Some e → slice_get shown n ≡ Some s →

@@ -3,7 +3,6 @@ use Rattle.std.proofs.Common.{◌≡◌, ◌≤◌, ◌<◌, ◌+◌, ℕ, zero,
 use Rattle.std.proofs.Common.{length, map, take, drop, get_or, arith, append_assoc, append-nil, ap, sym, refl, subst, ◌∙◌}
 use Rattle.std.specs.Prelude.{◌&&◌, replicate}
 use Rattle.std.specs.Int.{is_in_range}
-use Rattle.std.proofs.lemmas.Fmt.{decimal_digit, decimal_step}
 use Rattle.std.proofs.lemmas.List.{take_more, length-take-le}
 use Rattle.flt_tree.specs.Names.{Text}
 use Rattle.flt_explain_details.specs.Page.{ascii, begins, byte_shown, character, character_by, front_of}
@@ -81,7 +80,5 @@ one_printed z i d less e before =
     ∙ ap (λ k. take (i + 1) z ++ shown (drop k z)) next
 
 -- ---- what the prover takes
-
-pub ruleset digit_steps = (append_assoc, decimal_digit, decimal_step)
 
 pub ruleset front_steps = (append_assoc, append-nil, hidden_front)

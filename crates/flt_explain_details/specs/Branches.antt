@@ -3,6 +3,7 @@ use Rattle.std.specs.Prelude.{ℕ, ◌==◌, Bool, if◌then◌else◌, ◌++◌
 use Rattle.flt_rules.specs.Table.{row}
 use Rattle.flt_tree.specs.Names.{Text}
 use Rattle.flt_graph.specs.Graph.{instruction_at, span_at}
+use Rattle.flt_graph.specs.Instruction.{roles}
 use Rattle.flt_graph.specs.declared.graph.Graph.{Graph}
 use Rattle.flt_graph.specs.declared.instruction.Instruction.{Instruction}
 use Rattle.flt_graph.specs.declared.instruction.Instruction.TheVariants as instruction
@@ -20,12 +21,12 @@ call_outcome c granted =
 abbrev pub outcome : Instruction → Bool → Option Text
 outcome (instruction.Test t succeeds fails) granted = Some (if granted then codes "is true" else codes "is false")
 outcome (instruction.Repeat turns block next) granted = Some (if granted then codes "takes a turn" else codes "has no turn left")
-outcome (instruction.Call c succeeds fails) granted = call_outcome c granted
+outcome (instruction.Call c succeeds fails) granted = call_outcome (roles c) granted
 outcome _ granted = None
 
 -- the same of calls alone
 abbrev pub outcome_of_call : Instruction → Bool → Option Text
-outcome_of_call (instruction.Call c succeeds fails) granted = call_outcome c granted
+outcome_of_call (instruction.Call c succeeds fails) granted = call_outcome (roles c) granted
 outcome_of_call _ granted = None
 
 -- the same of a step of a callback

@@ -16,6 +16,7 @@ use Rattle.flt_tree.specs.declared.filter.Status.{Status}
 use Rattle.flt_abs.specs.Sets.{StatusSet, status_bits}
 use Rattle.flt_abs.specs.State.{State}
 use Rattle.flt_graph.specs.Graph.{instruction_at, line_at, place_at}
+use Rattle.flt_graph.specs.Instruction.{roles}
 use Rattle.flt_graph.specs.declared.graph.Graph.{Graph}
 use Rattle.flt_graph.specs.declared.instruction.Instruction.{Instruction}
 use Rattle.flt_graph.specs.declared.instruction.Instruction.TheVariants.{Call, Return}
@@ -82,12 +83,12 @@ instruction x = instruction_at x.graph x.finding.callback x.finding.point
 
 -- the call of an instruction
 abbrev pub call_in : Instruction → Option Invocation
-call_in (Call c granted failed) = Some c
+call_in (Call c granted failed) = Some (roles c)
 call_in _ = None
 
 -- the status that an instruction returns, or that its call is given
 abbrev pub status_in : Instruction → Option Status
-status_in (Call c granted failed) = c.status
+status_in (Call c granted failed) = (roles c).status
 status_in (Return st) = st
 status_in _ = None
 

@@ -1,10 +1,10 @@
 -- The last lines of reports. This project's own program.
-use Rattle.std.specs.Prelude.{ℕ, List, [], ◌∷◌, ◌++◌, codes, nat_lt, if◌then◌else◌}
+use Rattle.std.specs.Prelude.{ℕ, List, [], ◌∷◌, ◌++◌, codes}
 use Rattle.std.specs.Fmt.{decimal}
 use Rattle.flt_places.specs.Files.{file_line, file_place}
 use Rattle.flt_places.specs.declared.files.Files.{Files}
-use Rattle.flt_rules.specs.Rule.{number, text}
-use Rattle.flt_rules.specs.declared.rule.Rule.{Rule}
+use Rattle.flt_rules.specs.Refusal.{refusal_line}
+use Rattle.flt_rules.specs.declared.refusal.Refusal.{Refusal}
 use Rattle.flt_syntax.specs.declared.fault.FaultKind.{FaultKind}
 use Rattle.flt_syntax.specs.declared.fault.FaultKind.TheVariants.{E01, E02, E03, E04, E05, E06, E07, E08}
 use Rattle.flt_syntax.specs.declared.fault.SyntaxFault.{SyntaxFault}
@@ -12,16 +12,6 @@ use Rattle.flt_tree.specs.declared.filter.Position.{Position}
 use Rattle.flt_explain.specs.declared.finding.Finding.{Finding}
 use Rattle.flt_explain_details.specs.declared.judged.TextJudgement.{TextJudgement}
 use Rattle.flt_explain_details.specs.declared.judged.TextJudgement.TheVariants.{Unread, Known}
-
--- `R01` to `R15`
-abbrev pub rule_name : Rule → List ℕ
-rule_name r = codes "R" ++ ((if nat_lt (number r) 10 then codes "0" else []) ++ decimal (number r))
-
--- where a finding is, in a line of this number, and its rule, as `check` and `analyse` say it
-abbrev pub refusal_line : Finding → ℕ → List ℕ
-refusal_line f line =
-    codes "refused callback " ++ decimal f.callback ++ codes " point " ++ decimal f.point ++ codes " line " ++ decimal line
-    ++ codes " " ++ rule_name f.rule ++ codes " " ++ text f.rule
 
 -- `E01` to `E08`
 abbrev pub fault_name : FaultKind → List ℕ
@@ -38,10 +28,14 @@ fault_name E08 = codes "E08"
 abbrev pub syntax_line : SyntaxFault → List ℕ
 syntax_line f = codes "syntax " ++ decimal f.line ++ codes ":" ++ decimal f.column ++ codes " " ++ fault_name f.kind
 
+-- the refusal that a finding is, by its line in its file
+abbrev pub refusal_in : Files → Finding → Refusal
+refusal_in files f = record { callback = f.callback; point = f.point; line = file_line files f.line; rule = f.rule }
+
 -- the last line where these are found: the first of them, by its line in its file
 abbrev pub findings_closing : Files → List Finding → List ℕ
 findings_closing files [] = codes "nothing found" ++ 10 ∷ []
-findings_closing files (f ∷ fs) = refusal_line f (file_line files f.line) ++ 10 ∷ []
+findings_closing files (f ∷ fs) = refusal_line (refusal_in files f) ++ 10 ∷ []
 
 -- a fault by its place in its file
 abbrev pub fault_at : SyntaxFault → Position → SyntaxFault

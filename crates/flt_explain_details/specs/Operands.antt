@@ -20,6 +20,7 @@ use Rattle.flt_syntax.specs.Cursor.{bytes_of}
 use Rattle.flt_syntax.specs.Lex.{tokens}
 use Rattle.flt_syntax.specs.declared.token.Token.{Token}
 use Rattle.flt_graph.specs.Graph.{span_at, instruction_at}
+use Rattle.flt_graph.specs.Instruction.{roles}
 use Rattle.flt_graph.specs.declared.graph.Graph.{Graph}
 use Rattle.flt_graph.specs.declared.instruction.Instruction.{Instruction}
 use Rattle.flt_graph.specs.declared.instruction.Instruction.TheVariants as instruction
@@ -78,7 +79,7 @@ is_returned st _ = false
 
 abbrev pub has_operand : Instruction → Subject → Bool
 has_operand (instruction.Act a next) u = is_action_about a u
-has_operand (instruction.Call c granted failed) u = is_called_with c u
+has_operand (instruction.Call c granted failed) u = is_called_with (roles c) u
 has_operand (instruction.Test t granted failed) u = is_tested t u
 has_operand (instruction.Repeat turns body next) u = false
 has_operand (instruction.Return st) u = is_returned st u

@@ -95,7 +95,8 @@ pub record IsRoute (text : Text) (f : Filter) (g : Graph) (found : Finding) (sho
   pub state : option_copied r.state ≡ state_at_end found.subject (way_of shown.answer)
 
 -- what is said of a finding, by what shows it, with each place in it
-pub record IsDetail (files : Files) (text : Text) (f : Filter) (g : Graph) (found : Finding) (shown : FindingTrace) (d : Detail) : Type 0 where
+pub record IsDetail (files : Files) (text : Text) (f : Filter) (g : Graph) (found : Finding)
+    (shown : FindingTrace) (d : Detail) : Type 0 where
   pub finding : d.finding ≡ found
   pub marks : AreMarks text f g found.callback found.point found.subject d.marks
   pub words : AreWords files text f g found (Some shown) d.words

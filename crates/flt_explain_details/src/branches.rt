@@ -20,7 +20,7 @@ fn outcome(instruction: &Instruction, granted: bool) -> Option<&'static str>
         (Instruction::Test(_, _, _), false) => Some("is false"),
         (Instruction::Repeat(_, _, _), true) => Some("takes a turn"),
         (Instruction::Repeat(_, _, _), false) => Some("has no turn left"),
-        (Instruction::Call(call, _, _), _) => call_outcome(call, granted),
+        (Instruction::Call(call, _, _), _) => call_outcome(&call.roles(), granted),
         _ => None,
     }
 }
@@ -49,7 +49,7 @@ pub fn step_call_outcome(scene: &Scene<'_>, callback: usize, step: Step) -> Opti
     ensures { option_copied result ≡ spec.step_call_outcome scene.now.graph.now callback step }
 {
     match scene.instruction(callback, step.point) {
-        Instruction::Call(call, _, _) => call_outcome(&call, step.granted),
+        Instruction::Call(call, _, _) => call_outcome(&call.roles(), step.granted),
         _ => None,
     }
 }

@@ -81,7 +81,7 @@ impl<'a> Case<'a> {
         ensures { result ≡ spec.call_in (spec.instruction (spec.of_case self.now)) }
     {
         match self.instruction() {
-            Instruction::Call(call, _, _) => Some(call),
+            Instruction::Call(call, _, _) => Some(call.roles()),
             _ => None,
         }
     }
@@ -91,7 +91,7 @@ impl<'a> Case<'a> {
         ensures { result ≡ spec.status_in (spec.instruction (spec.of_case self.now)) }
     {
         match self.instruction() {
-            Instruction::Call(call, _, _) => call.status,
+            Instruction::Call(call, _, _) => call.roles().status,
             Instruction::Return(status) => status,
             _ => None,
         }
@@ -161,7 +161,7 @@ impl<'a> Case<'a> {
         ensures { result ≡ spec.call_at (spec.of_case self.now) step }
     {
         match self.step_instruction(step) {
-            Instruction::Call(call, _, _) => Some(call),
+            Instruction::Call(call, _, _) => Some(call.roles()),
             _ => None,
         }
     }

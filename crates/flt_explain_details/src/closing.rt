@@ -5,45 +5,11 @@ ghost use Rattle.flt_explain_details.specs.Closing as spec;
 
 use flt_explain::Finding;
 use flt_places::Files;
-use flt_rules::{Rule, number, text};
+use flt_rules::Refusal;
 use flt_syntax::{FaultKind, SyntaxFault};
 use flt_tree::Position;
 use std::alloc::{AllocError, Global};
 use std::fmt;
-
-/// `R01` to `R15`.
-#[derive(Drop)]
-pub struct RuleName(pub Rule);
-
-impl fmt::Display for RuleName {
-    ghost output = { λ r. Some (spec.rule_name r.0) };
-
-    fn fmt<W: fmt::Write>(&self, f: &mut fmt::Formatter<W>) -> fmt::Result {
-        let number = number(self.0);
-        let zero = if number < 10 { "0" } else { "" };
-        write!(f, "R{zero}{number}")
-    }
-}
-
-/// The line that says where a text is refused, and why, as `analyse` prints it, with this number of a line.
-#[derive(Drop)]
-struct RefusalLine(Finding, usize);
-
-impl fmt::Display for RefusalLine {
-    ghost output = { λ r. Some (spec.refusal_line r.0 r.1) };
-
-    fn fmt<W: fmt::Write>(&self, f: &mut fmt::Formatter<W>) -> fmt::Result {
-        let callback = self.0.callback;
-        let point = self.0.point;
-        let line = self.1;
-        let rule = RuleName(self.0.rule);
-        let words = text(self.0.rule);
-        write!(
-            f,
-            "refused callback {callback} point {point} line {line} {rule} {words}"
-        )
-    }
-}
 
 /// `E01` to `E08`.
 pub fn fault_name(kind: FaultKind) -> &'static str
@@ -76,6 +42,18 @@ impl fmt::Display for SyntaxLine {
     }
 }
 
+/// The refusal that a finding is, by its line in its file.
+fn refusal_in(files: &Files<'_>, finding: &Finding) -> Refusal
+    ensures { result ≡ spec.refusal_in files.now finding.now }
+{
+    Refusal {
+        callback: finding.callback,
+        point: finding.point,
+        line: files.file_line(finding.line),
+        rule: finding.rule,
+    }
+}
+
 /// The last line of a report with these findings: the place of the first one, by its line in its file, and its rule, or that nothing is
 /// found.
 ///
@@ -91,8 +69,8 @@ pub fn findings_line(
 {
     match found {
         [first, ..] => {
-            let line = RefusalLine(*first, files.file_line(first.line));
-            format!(in alloc; "{line}\n")
+            let refusal = refusal_in(files, first);
+            format!(in alloc; "refused {refusal}\n")
         }
         [] => String::from_str(alloc, "nothing found\n"),
     }

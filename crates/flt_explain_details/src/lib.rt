@@ -19,7 +19,7 @@ mod subjects;
 mod tracing;
 
 pub use branches::{step_call_outcome, step_outcome, tell_branch};
-pub use closing::{RuleName, SyntaxLine, fault_line, fault_name, findings_line};
+pub use closing::{SyntaxLine, fault_line, fault_name, findings_line};
 pub use judged::{TextJudgement, judge};
 pub use names::call_name;
 pub use operands::{Marks, tokens_of, word_of};

@@ -2,18 +2,17 @@
 
 ghost use Rattle.std.specs.Prelude.{◌≡◌, IfOk};
 ghost use Rattle.std.specs.List.{find};
-ghost use Rattle.flt_explain.specs.About as about;
 ghost use Rattle.flt_tree.specs.Declarations as declarations;
 ghost use Rattle.flt_explain_details.specs.Operands as spec;
 
 use crate::scene::Scene;
-use flt_explain::Subject;
+use flt_explain::{Subject, is_action_about, is_context, is_lock, is_operation};
 use flt_graph::{Instruction, Invocation};
 use flt_places::{Lines, Region};
 use flt_rules::{LockNumber, MAX_TEXT};
 use flt_syntax::{Token, Tree, bytes_of, tokens};
 use flt_tree::{
-    Action, ContextVariable, OperationVariable, RemovedVariable, Span, Status, Test, named_context,
+    ContextVariable, OperationVariable, RemovedVariable, Span, Status, Test, named_context,
 };
 use sqlite_items::Items;
 use std::alloc::{AllocError, Global};
@@ -81,48 +80,6 @@ pub fn word_of(tree: &Tree, subject: Subject) -> &[u8]
 
 // ---- operands
 
-fn is_context(named: Option<ContextVariable>, variable: ContextVariable) -> bool
-    ensures { result ≡ about.is_context named variable }
-{
-    match named {
-        Some(named) => named.place() == variable.place(),
-        None => false,
-    }
-}
-
-fn is_operation(named: Option<OperationVariable>, variable: OperationVariable) -> bool
-    ensures { result ≡ about.is_operation named variable }
-{
-    match named {
-        Some(named) => named.place() == variable.place(),
-        None => false,
-    }
-}
-
-fn is_lock(named: Option<LockNumber>, lock: LockNumber) -> bool
-    ensures { result ≡ about.is_lock named lock }
-{
-    match named {
-        Some(named) => named.place() == lock.place(),
-        None => false,
-    }
-}
-
-fn is_acted_on(action: Action, subject: Subject) -> bool
-    ensures { result ≡ about.is_action_about action subject }
-{
-    match (action, subject) {
-        (Action::ReadValue(_, c), Subject::Context(v)) => is_context(Some(c), v),
-        (Action::WriteValue(c, _), Subject::Context(v)) => is_context(Some(c), v),
-        (Action::ClearContext(c), Subject::Context(v)) => is_context(Some(c), v),
-        (Action::ClearOperation(o), Subject::Operation(v)) => {
-            is_operation(Some(OperationVariable::Removed(o)), v)
-        }
-        (Action::ReadFile(_, d), Subject::Operation(v)) => is_operation(Some(d), v),
-        _ => false,
-    }
-}
-
 fn is_tested(test: Test, subject: Subject) -> bool
     ensures { result ≡ spec.is_tested test subject }
 {
@@ -160,8 +117,8 @@ fn has_operand(instruction: &Instruction, subject: Subject) -> bool
     ensures { result ≡ spec.has_operand instruction.now subject }
 {
     match instruction {
-        Instruction::Act(action, _) => is_acted_on(*action, subject),
-        Instruction::Call(call, _, _) => is_called_with(call, subject),
+        Instruction::Act(action, _) => is_action_about(*action, subject),
+        Instruction::Call(call, _, _) => is_called_with(&call.roles(), subject),
         Instruction::Test(test, _, _) => is_tested(*test, subject),
         Instruction::Return(status) => is_returned(*status, subject),
         Instruction::Repeat(_, _, _) | Instruction::End => false,

@@ -7,6 +7,7 @@ ghost use Rattle.std.specs.Int.{is_in_range};
 ghost use Rattle.flt_explain_details.specs.Page as spec;
 
 use flt_places::Files;
+use itoa::Buffer;
 use std::alloc::{AllocError, Global};
 
 /// A part of a sentence.
@@ -354,23 +355,10 @@ fn character(bytes: &[u8]) -> (usize, bool)
     }
 }
 
-fn digit(out: &mut Vec<u8>, digit: u8) -> Result<(), AllocError>
-    requires { digit < 10 }
-    ensures { OnOk result (out.new.items ≡ out.old.items ++ (48 + digit) ∷ []) }
-{
-    out.push(b'0' + digit)?;
-    Ok(())
-}
-
 /// Writes the digits of a number.
-#[tactic(auto, using(crate::proofs::Pages::digit_steps))]
 fn digits(out: &mut Vec<u8>, n: u64) -> Result<(), AllocError>
     ensures { OnOk result (out.new.items ≡ out.old.items ++ decimal n) }
 {
-    if n < 10 {
-        return digit(out, n as u8);
-    }
-    digits(out, n / 10)?;
-    digit(out, (n % 10) as u8)?;
-    Ok(())
+    let mut buffer = Buffer::new();
+    out.extend_from_slice(buffer.format(n).as_bytes())
 }

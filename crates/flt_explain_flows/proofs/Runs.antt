@@ -23,11 +23,13 @@ kept_of : (all : List EntryActivation) (taken : EntryActivation) (ran : Option R
     ran_after all (option_map (with_first taken) ran) ≡ ran_after (all ++ taken ∷ []) ran
 kept_of all taken None = refl
 kept_of all taken (Some run) =
-    ap (λ (xs : List EntryActivation). Some (let kept : Run = record run { taken = xs } in kept)) (sym (append_assoc all (taken ∷ []) run.taken))
+    ap (λ (xs : List EntryActivation). Some (let kept : Run = record run { taken = xs } in kept))
+    (sym (append_assoc all (taken ∷ []) run.taken))
 
 kept_none : (all : List EntryActivation) (actives : List Active) →
     ran_after all (Some (record { taken = []; actives = actives })) ≡ Some (record { taken = all; actives = actives })
-kept_none all actives = ap (λ (xs : List EntryActivation). Some (let kept : Run = record { taken = xs; actives = actives } in kept)) (append-nil all)
+kept_none all actives = ap (λ (xs : List EntryActivation). Some (let kept : Run = record { taken = xs; actives = actives } in kept))
+    (append-nil all)
 
 module _ (p : List Filter) where
   -- an entry, before others
@@ -60,7 +62,8 @@ module _ (p : List Filter) where
       ∙ ap (ran_after all) (entered_on s (get_or es place d) (drop (suc place) es) Stops is)
 
   -- the same, where the entries are lent
-  pub ran_on : (s after : Course) (all grown : List EntryActivation) (found : Option EntryActivation) (taken : EntryActivation) (whole : Option Run)
+  pub ran_on : (s after : Course) (all grown : List EntryActivation) (found : Option EntryActivation)
+      (taken : EntryActivation) (whole : Option Run)
       (lent es : List JournalEntry) (place : ℕ) (d : JournalEntry) → lent ≡ es → place < length lent →
       IsEntered found after (entry_of p s (get_or lent place d)) → found ≡ Some taken → grown ≡ all ++ taken ∷ [] →
       ran_after all (ran_from p s (drop place es)) ≡ whole → ran_after grown (ran_from p after (drop (place + 1) es)) ≡ whole

@@ -13,7 +13,7 @@ use Rattle.flt_model.specs.Steps.{Make, Board}
 use Rattle.flt_model.specs.World.{World, activation_at, actor_at, opening}
 use Rattle.flt_replay_course.specs.Leading.{after_step}
 use Rattle.flt_replay_steps.specs.Unseen.{unseen}
-pub use Rattle.flt_explain_timeline.specs.Callbacks.{span_of}
+use Rattle.flt_tree.specs.Filter.{span_of}
 use Rattle.flt_explain_timeline.specs.Callbacks.{start_of}
 use Rattle.flt_explain_timeline.specs.Course.{operation_on, routine_of}
 use Rattle.flt_explain_timeline.specs.declared.telling.StartedCallback.{StartedCallback}

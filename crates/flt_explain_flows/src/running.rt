@@ -3,7 +3,7 @@
 ghost use Rattle.std.specs.Prelude.{◌≡◌, [], ◌∷◌, List, IfOk, MatchOption, slice_get};
 ghost use Rattle.flt_model.specs.Program.{callbacks_at as callbacks_in};
 ghost use Rattle.flt_replay_records.specs.Rest.{statement_of};
-ghost use Rattle.flt_tree.specs.declared.filter.Statement.{Statement as Written, out-Statement};
+ghost use Rattle.flt_tree.specs.declared.filter.Statement.{Statement as Written};
 ghost use Rattle.flt_replay_world.specs.Filters.{filters_behind};
 ghost use Rattle.flt_explain_timeline.specs.Course as told;
 ghost use Rattle.flt_explain_flows.specs.Running as spec;
@@ -84,25 +84,13 @@ fn end_of(filters: &[&Filter], started: StartedCallback) -> Span
     }
 }
 
-fn span_of(statement: &Statement) -> Span
-    ensures { result ≡ spec.span_of (out-Statement statement.now) }
-{
-    match statement {
-        Statement::Act(span, _)
-        | Statement::Call(span, _)
-        | Statement::Return(span, _)
-        | Statement::If(span, _, _, _)
-        | Statement::Repeat(span, _, _) => *span,
-    }
-}
-
 /// The place of the next step: at the end of a body that of its closing brace.
 fn next_span(next: Option<Upcoming<'_>>, end: Span) -> Span
     ensures { (statements rest : List Written) → MatchOption next.entry (statements ≡ []) (λ u. statements ≡ statement_of u ∷ rest) →
         result ≡ spec.next_span end statements }
 {
     match next {
-        Some(Upcoming::Statement(statement)) => span_of(statement),
+        Some(Upcoming::Statement(statement)) => statement.span(),
         Some(Upcoming::Repeat(span, _, _)) => *span,
         None => end,
     }

@@ -1,9 +1,8 @@
 -- Findings, as JSON. This project's own format.
 use Rattle.std.specs.Prelude.{ℕ, List, [], ◌∷◌, ◌++◌, Option, Some, None, codes}
 use Rattle.std.specs.Borrow.{Bor}
-use Rattle.flt_rules.specs.Rule.{text}
+use Rattle.flt_rules.specs.Rule.{rule_name, text}
 use Rattle.json.specs.Token.{Token, begin_object, end_object, key}
-use Rattle.flt_explain_details.specs.Closing.{rule_name}
 use Rattle.flt_explain_details.specs.declared.study.Detail.{Detail}
 use Rattle.flt_explain_details.specs.declared.study.Route.{Route}
 use Rattle.flt_explain_details.specs.declared.study.Words.{Words}

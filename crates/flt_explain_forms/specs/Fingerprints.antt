@@ -4,7 +4,7 @@ use Rattle.std.specs.Prelude.{ℕ, List, [], ◌∷◌, ◌++◌, ◌-◌, ◌==
 use Rattle.std.specs.Prelude.{codes, count_by, drop, if◌then◌else◌, length, take}
 use Rattle.std.specs.Str.Lossy.{utf8_lossy}
 use Rattle.std.specs.Str.{bytes_eq}
-use Rattle.flt_explain_details.specs.Closing.{rule_name}
+use Rattle.flt_rules.specs.Rule.{rule_name}
 use Rattle.flt_explain_details.specs.declared.study.Detail.{Detail}
 use Rattle.flt_explain_details.specs.declared.study.Maker.{Maker}
 use Rattle.flt_places.specs.Places.{line_of}

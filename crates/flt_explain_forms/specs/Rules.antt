@@ -2,12 +2,12 @@
 use Rattle.std.specs.Prelude.{◌≡◌, ℕ, List, [], ◌∷◌, ◌++◌, IfSome, Option, Some, None, codes, flat_map, is_some}
 use Rattle.std.specs.Borrow.{Bor}
 use Rattle.std.specs.Io.{StartsWith}
-use Rattle.flt_explain_details.specs.Closing.{fault_name, rule_name}
+use Rattle.flt_explain_details.specs.Closing.{fault_name}
 use Rattle.flt_c_drift.specs.declared.drift.DriftKind.{DriftKind}
 use Rattle.flt_c_drift.specs.declared.drift.DriftKind.TheVariants as drift
 use Rattle.flt_c_drift_reports.specs.Words as drifts
 use Rattle.flt_explain_pages.specs.Pages.{has_page, title}
-use Rattle.flt_rules.specs.Rule.{text}
+use Rattle.flt_rules.specs.Rule.{rule_name, text}
 use Rattle.flt_rules.specs.declared.rule.Rule.{Rule}
 use Rattle.flt_rules.specs.declared.rule.Rule.TheVariants.{R01, R02, R03, R04, R05, R06, R07, R08, R09, R10, R11, R12, R13, R14, R15}
 use Rattle.flt_syntax.specs.declared.fault.FaultKind.{FaultKind}

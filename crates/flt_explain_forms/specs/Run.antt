@@ -1,8 +1,6 @@
 -- Runs that break something because of findings. This project's own definitions.
-use Rattle.std.specs.Prelude.{ℕ, List, [], ◌∷◌, ◌&&◌, ◌==◌, Bool, Option, Some, None, codes, if◌then◌else◌, slice_get}
+use Rattle.std.specs.Prelude.{ℕ, List, [], ◌∷◌, ◌&&◌, ◌==◌, Bool, Option, Some, None, if◌then◌else◌, slice_get}
 use Rattle.flt_explain_flows.specs.declared.flows.FlowActivation.{FlowActivation}
-use Rattle.flt_model.specs.declared.verdict.Violation.{Violation}
-use Rattle.flt_model.specs.declared.verdict.Violation.TheVariants.{V1, V2, V3, V4, V5, V6, V7, V8}
 use Rattle.flt_explain_forms.specs.declared.run.FindingRun.{FindingRun}
 
 -- a run is that of the finding of this number in the text of that number
@@ -13,17 +11,6 @@ is_of r source finding = r.source == source && r.finding == finding
 abbrev pub run_of : List FindingRun → ℕ → ℕ → Option FindingRun
 run_of [] source finding = None
 run_of (r ∷ rs) source finding = if is_of r source finding then Some r else run_of rs source finding
-
--- how a violation is named
-abbrev pub violation_name : Violation → List ℕ
-violation_name V1 = codes "V1"
-violation_name V2 = codes "V2"
-violation_name V3 = codes "V3"
-violation_name V4 = codes "V4"
-violation_name V5 = codes "V5"
-violation_name V6 = codes "V6"
-violation_name V7 = codes "V7"
-violation_name V8 = codes "V8"
 
 -- what has this number among others, if it is there
 abbrev pub at : {A : Type 0} → List A → Option ℕ → Option A

@@ -4,6 +4,7 @@ use Rattle.std.specs.Prelude.{ℕ, List, [], ◌∷◌, ◌++◌, ◌==◌, Bool
 use Rattle.json.specs.Token.{Token, begin_object, end_object, key}
 use Rattle.flt_explain_flows.specs.declared.flows.FlowActivation.{FlowActivation}
 use Rattle.flt_explain_flows.specs.declared.flows.FlowStep.{FlowStep}
+use Rattle.flt_model.specs.Verdicts.{violation_name}
 use Rattle.flt_model.specs.declared.verdict.Violation.{Violation}
 use Rattle.flt_places.specs.Places.{region_of}
 use Rattle.flt_places.specs.declared.places.Region.{Region}
@@ -11,7 +12,7 @@ use Rattle.flt_tree.specs.declared.filter.Span.{Span}
 use Rattle.flt_explain_forms.specs.Counted.{counted}
 use Rattle.flt_explain_forms.specs.Members.{array_member, number_member, object_member, string_member, text_member}
 use Rattle.flt_explain_forms.specs.Results.{artifact_location, item, message, whole_region}
-use Rattle.flt_explain_forms.specs.Run.{at, run_of, source_of, violation_name}
+use Rattle.flt_explain_forms.specs.Run.{at, run_of, source_of}
 use Rattle.flt_explain_forms.specs.declared.file.File.{File}
 use Rattle.flt_explain_forms.specs.declared.run.FindingRun.{FindingRun}
 use Rattle.flt_explain_forms.specs.declared.run_flow.FileRuns.{FileRuns}

@@ -1,7 +1,8 @@
 -- What is found of texts, a sentence a line, as compilers say it. This project's own format.
 use Rattle.std.specs.Prelude.{◌≡◌, ℕ, List, [], ◌∷◌, ◌++◌, Option, Some, None, codes}
 use Rattle.std.specs.Fmt.{decimal}
-use Rattle.flt_explain_details.specs.Closing.{fault_name, rule_name}
+use Rattle.flt_rules.specs.Rule.{rule_name}
+use Rattle.flt_explain_details.specs.Closing.{fault_name}
 use Rattle.flt_explain_details.specs.declared.study.Detail.{Detail}
 use Rattle.flt_explain_hints.specs.Telling.{title_of}
 use Rattle.flt_explain_hints.specs.Trouble.{IsDescribed}

@@ -130,7 +130,7 @@ fn put_result_members(
     ensures { Adds result writer.old writer.new
         (spec.result_members artifact.now lines.now region words.now.items print.now kind) }
 {
-    put_of_rule(alloc, writer, ResultKind::Drifted(kind))?;
+    put_of_rule(writer, ResultKind::Drifted(kind))?;
     put_drift_level(writer, kind)?;
     put_message(alloc, writer, words)?;
     put_locations(alloc, writer, artifact, lines, region, words)?;

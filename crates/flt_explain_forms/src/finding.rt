@@ -5,8 +5,7 @@ ghost use Rattle.flt_explain_forms.specs.Finding as spec;
 ghost use Rattle.flt_explain_forms.specs.Members.{Adds, string_member};
 ghost use Rattle.flt_explain_forms.specs.Points.{regions};
 ghost use Rattle.flt_explain_forms.specs.RunMember.{member_of, members_in};
-ghost use Rattle.flt_rules.specs.Rule.{text as rule_text};
-ghost use Rattle.flt_explain_details.specs.Closing.{rule_name};
+ghost use Rattle.flt_rules.specs.Rule.{rule_name, text as rule_text};
 
 use crate::members::{
     close_object, open_object, put_filled, put_key, put_marks, put_null, put_number, put_string,
@@ -17,7 +16,7 @@ use crate::preface::put_preface;
 use crate::run_member::{OwnRun, TextRuns, put_run_member};
 use crate::steps::{put_kind, put_like, put_maker_member, put_steps, put_steps_member};
 use flt_explain::Finding;
-use flt_explain_details::{Detail, Route, RuleName, Words};
+use flt_explain_details::{Detail, Route, Words};
 use flt_graph::Graph;
 use flt_places::{Files, Lines};
 use flt_rules::{Rule, text};
@@ -33,12 +32,10 @@ fn put_place(writer: &mut Writer, points: &Points<'_>, detail: &Detail) -> Resul
 }
 
 /// Writes a rule's number.
-fn put_rule_name(alloc: Global, writer: &mut Writer, rule: Rule) -> Result<(), AllocError>
+fn put_rule_name(writer: &mut Writer, rule: Rule) -> Result<(), AllocError>
     ensures { Adds result writer.old writer.new (string_member (codes "rule") (rule_name rule)) }
 {
-    let rule = RuleName(rule);
-    let name = format!(in alloc; "{rule}")?;
-    put_string(writer, "rule", name.as_str())
+    put_string(writer, "rule", rule.name())
 }
 
 /// Writes a rule's text.
@@ -48,10 +45,10 @@ fn put_rule_text(writer: &mut Writer, rule: Rule) -> Result<(), AllocError>
     put_string(writer, "text", text(rule))
 }
 
-fn put_rule(alloc: Global, writer: &mut Writer, finding: &Finding) -> Result<(), AllocError>
+fn put_rule(writer: &mut Writer, finding: &Finding) -> Result<(), AllocError>
     ensures { Adds result writer.old writer.new (spec.rule finding.now) }
 {
-    put_rule_name(alloc, writer, finding.rule)?;
+    put_rule_name(writer, finding.rule)?;
     put_rule_text(writer, finding.rule)
 }
 
@@ -120,7 +117,7 @@ fn put_finding(
     open_object(writer)?;
     put_preface(writer, "finding", points.files.file_name(points.home))?;
     put_place(writer, points, detail)?;
-    put_rule(alloc, writer, &detail.finding)?;
+    put_rule(writer, &detail.finding)?;
     put_words(alloc, writer, &detail.words)?;
     put_route(alloc, writer, points, &detail.route)?;
     put_run_member(alloc, writer, own)?;

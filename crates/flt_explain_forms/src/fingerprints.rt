@@ -3,7 +3,7 @@
 ghost use Rattle.std.specs.Prelude.{◌≡◌, ◌≤◌, ◌-◌, ◌∷◌, ◌++◌, [], IfOk, Some, drop, length, min, string_bytes, take};
 ghost use Rattle.flt_explain_forms.specs.Fingerprints as spec;
 
-use flt_explain_details::{Detail, Maker, RuleName};
+use flt_explain_details::{Detail, Maker};
 use flt_explain_warning_details::WarningDetail;
 use flt_places::{Lines, Region};
 use sqlite_items::Items;
@@ -112,13 +112,11 @@ pub(crate) fn finding_key(
 ) -> Result<String, AllocError>
     ensures { IfOk result (λ key. string_bytes key ≡ spec.finding_key lines.now detail.now) }
 {
-    let rule = RuleName(detail.finding.rule);
-    let rule = format!(in alloc; "{rule}")?;
     let words = &detail.words;
     let statement = made_at(&detail.route.origin, detail.marks.statement);
     key_of(
         alloc,
-        rule.as_str(),
+        detail.finding.rule.name(),
         words.head.as_slice(),
         words.subject.as_slice(),
         text_in(lines, statement),

@@ -589,7 +589,7 @@ fn put_result_members(
     ensures { Adds result writer.old writer.new
         (spec.result_members file.now (regions points.now) print.now (flow_of own.entry) detail.now) }
 {
-    put_of_rule(alloc, writer, ResultKind::Broken(detail.finding.rule))?;
+    put_of_rule(writer, ResultKind::Broken(detail.finding.rule))?;
     put_level(writer)?;
     put_message(alloc, writer, &detail.words.title)?;
     put_marked_locations(alloc, writer, file, detail.marks, &detail.words.title)?;
@@ -774,7 +774,7 @@ fn put_fault_members(
     ensures { Adds result writer.old writer.new
         (spec.fault_members file.now fault found.now words.now.items help.now.items) }
 {
-    put_of_rule(alloc, writer, ResultKind::Unread(fault.kind))?;
+    put_of_rule(writer, ResultKind::Unread(fault.kind))?;
     put_level(writer)?;
     put_message(alloc, writer, words)?;
     put_fault_locations(alloc, writer, file, fault, found, words)?;

@@ -1,6 +1,6 @@
 //! The rules of a document of SARIF, each with its page.
 
-ghost use Rattle.std.specs.Prelude.{◌≡◌, ◌∷◌, ◌++◌, [], IfOk, List, codes, flat_map, string_bytes};
+ghost use Rattle.std.specs.Prelude.{◌≡◌, ◌∷◌, ◌++◌, [], IfOk, List, codes, flat_map};
 ghost use Rattle.json.specs.Token.{Token, string};
 ghost use Rattle.flt_c_drift_reports.specs.Words.{code as drift_code};
 ghost use Rattle.flt_explain_forms.specs.Members.{Added, Adds, array_member, number_member, object_member, string_member, text_member};
@@ -14,7 +14,7 @@ use crate::members::{
 use crate::paragraphs::first_paragraph;
 use flt_c_drift::DriftKind;
 use flt_c_drift_reports::{code, help};
-use flt_explain_details::{RuleName, fault_name};
+use flt_explain_details::fault_name;
 use flt_explain_pages::page;
 use flt_explain_warnings::Kind;
 use flt_rules::{Rule, text};
@@ -90,17 +90,14 @@ fn drift_kinds() -> &'static [DriftKind]
 // ---- what is said of a rule
 
 /// Its number, as `R02`.
-fn id_of(alloc: Global, reported: ResultKind) -> Result<String, AllocError>
-    ensures { IfOk result (λ id. string_bytes id ≡ spec.id_of reported) }
+fn id_of(reported: ResultKind) -> &'static str
+    ensures { result.now ≡ spec.id_of reported }
 {
     match reported {
-        ResultKind::Broken(rule) => {
-            let name = RuleName(rule);
-            format!(in alloc; "{name}")
-        }
-        ResultKind::Unread(kind) => String::from_str(alloc, fault_name(kind)),
-        ResultKind::Warned(kind) => String::from_str(alloc, kind.name()),
-        ResultKind::Drifted(kind) => String::from_str(alloc, code(kind)),
+        ResultKind::Broken(rule) => rule.name(),
+        ResultKind::Unread(kind) => fault_name(kind),
+        ResultKind::Warned(kind) => kind.name(),
+        ResultKind::Drifted(kind) => code(kind),
     }
 }
 
@@ -411,9 +408,9 @@ fn put_rule_item(
 fn put_rule(alloc: Global, writer: &mut Writer, reported: ResultKind) -> Result<(), AllocError>
     ensures { IfOk result (λ _. (ts : List Token) × spec.IsRule reported ts × Added writer.old writer.new ts) }
 {
-    let id = id_of(alloc, reported)?;
-    let page = page(id.as_str());
-    put_rule_item(alloc, writer, id.as_str(), reported, page)?;
+    let id = id_of(reported);
+    let page = page(id);
+    put_rule_item(alloc, writer, id, reported, page)?;
     Ok(())
 }
 
@@ -593,11 +590,10 @@ pub(crate) fn put_tool(
 
 // ---- of a result
 
-fn put_id(alloc: Global, writer: &mut Writer, reported: ResultKind) -> Result<(), AllocError>
+fn put_id(writer: &mut Writer, reported: ResultKind) -> Result<(), AllocError>
     ensures { Adds result writer.old writer.new (string_member (codes "ruleId") (spec.id_of reported)) }
 {
-    let id = id_of(alloc, reported)?;
-    put_string(writer, "ruleId", id.as_str())
+    put_string(writer, "ruleId", id_of(reported))
 }
 
 fn put_index(writer: &mut Writer, reported: ResultKind) -> Result<(), AllocError>
@@ -607,13 +603,9 @@ fn put_index(writer: &mut Writer, reported: ResultKind) -> Result<(), AllocError
 }
 
 /// Writes the rule of a result.
-pub(crate) fn put_of_rule(
-    alloc: Global,
-    writer: &mut Writer,
-    reported: ResultKind,
-) -> Result<(), AllocError>
+pub(crate) fn put_of_rule(writer: &mut Writer, reported: ResultKind) -> Result<(), AllocError>
     ensures { Adds result writer.old writer.new (spec.of_rule reported) }
 {
-    put_id(alloc, writer, reported)?;
+    put_id(writer, reported)?;
     put_index(writer, reported)
 }

@@ -47,22 +47,6 @@ pub(crate) fn run_of<'r>(
     None
 }
 
-/// The name of a violation.
-pub(crate) fn violation_name(violation: Violation) -> &'static str
-    ensures { result.now ≡ spec.violation_name violation }
-{
-    match violation {
-        Violation::V1 => "V1",
-        Violation::V2 => "V2",
-        Violation::V3 => "V3",
-        Violation::V4 => "V4",
-        Violation::V5 => "V5",
-        Violation::V6 => "V6",
-        Violation::V7 => "V7",
-        Violation::V8 => "V8",
-    }
-}
-
 /// The number of the text of an activation among those that are reported, if it is there.
 pub(crate) fn source_of(run: &FindingRun, activation: Option<usize>) -> Option<usize>
     ensures { result ≡ spec.source_of run.now activation }

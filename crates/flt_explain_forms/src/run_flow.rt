@@ -13,7 +13,7 @@ use crate::members::{
     put_string,
 };
 use crate::results::{put_artifact, put_whole_region};
-use crate::run::{FindingRun, run_of, source_of, violation_name};
+use crate::run::{FindingRun, run_of, source_of};
 use flt_explain_flows::{FlowActivation, FlowStep};
 use flt_model::Violation;
 use flt_places::Region;
@@ -310,7 +310,7 @@ impl fmt::Display for RunWords {
     ghost output = { λ r. Some (spec.words_of r.0 r.1) };
 
     fn fmt<W: fmt::Write>(&self, f: &mut fmt::Formatter<W>) -> fmt::Result {
-        let violation = violation_name(self.0);
+        let violation = self.0.name();
         let entry = self.1;
         write!(f, "a run that breaks {violation} at entry {entry}")
     }

@@ -9,7 +9,7 @@ use crate::members::{
     close_array, close_object, open_array, open_object, put_items, put_key, put_null, put_number,
     put_region_members, put_string,
 };
-use crate::run::{FindingRun, run_of, source_of as source_of_activation, violation_name};
+use crate::run::{FindingRun, run_of, source_of as source_of_activation};
 use flt_explain_details::Source;
 use flt_explain_flows::{FlowActivation, FlowStep};
 use flt_places::{Files, Lines, Region};
@@ -47,7 +47,7 @@ fn put_breaks(writer: &mut Writer, run: &FindingRun) -> Result<(), AllocError>
 {
     put_key(writer, "breaks")?;
     open_object(writer)?;
-    put_string(writer, "violation", violation_name(run.violation))?;
+    put_string(writer, "violation", run.violation.name())?;
     put_number(writer, "entry", run.entry)?;
     close_object(writer)
 }

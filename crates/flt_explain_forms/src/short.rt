@@ -6,7 +6,7 @@ ghost use Rattle.flt_explain_forms.specs.Short as spec;
 ghost use Rattle.flt_syntax.specs.TextFails.{Fails};
 
 use flt_explain::Finding;
-use flt_explain_details::{Detail, RuleName, Source, details, fault_name};
+use flt_explain_details::{Detail, Source, details, fault_name};
 use flt_explain_hints::{describe, tell};
 use flt_explain_warning_details::WarningDetail;
 use flt_graph::Graph;
@@ -98,10 +98,9 @@ fn put_finding(
 ) -> Result<Vec<u8>, AllocError>
     ensures { IfOk result (λ v. v.items ≡ out.items ++ spec.finding_line files.now detail.now) }
 {
-    let rule = RuleName(detail.finding.rule);
-    let rule = format!(in alloc; "{rule}")?;
+    let rule = detail.finding.rule.name();
     let place = detail.marks.statement.first;
-    let head = head_of(alloc, files, place, "error", rule.as_str())?;
+    let head = head_of(alloc, files, place, "error", rule)?;
     put_sentence(out, head.as_str(), detail.words.title.as_slice())
 }
 

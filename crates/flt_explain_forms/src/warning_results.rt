@@ -161,7 +161,7 @@ fn put_result_members(
     ensures { Adds result writer.old writer.new
         (spec.result_members file.now print.now detail.now title.now.items head.now.items) }
 {
-    put_of_rule(alloc, writer, ResultKind::Warned(detail.kind))?;
+    put_of_rule(writer, ResultKind::Warned(detail.kind))?;
     put_warning_level(writer)?;
     put_message(alloc, writer, title)?;
     put_marked_locations(alloc, writer, file, detail.marks, title)?;

@@ -3,8 +3,10 @@ use Rattle.std.specs.Prelude.{ℕ, ◌==◌, Bool, true, false, not, ◌&&◌, �
 use Rattle.std.specs.Prelude.{Some, None, codes, if◌then◌else◌, is_some, map, nat_eq, nat_le}
 use Rattle.std.specs.Char.{is_ascii_digit}
 use Rattle.std.specs.List.{list_all, starts_with}
-use Rattle.std.specs.Option.{option_or}
+use Rattle.std.specs.Option.{option_map, option_or}
 use Rattle.std.specs.Str.{bytes_eq}
+use Rattle.flt_rules.specs.declared.call.LockKind.{LockKind}
+use Rattle.flt_rules.specs.declared.call.LockKind.TheVariants.{Spin, Fast, Push}
 use Rattle.flt_syntax.specs.Lex.{same_kind}
 use Rattle.flt_syntax.specs.declared.fault.FaultKind.{FaultKind}
 use Rattle.flt_syntax.specs.declared.fault.FaultKind.TheVariants.{E01, E02, E03, E04, E05, E06, E07, E08}
@@ -14,7 +16,7 @@ use Rattle.flt_tree.specs.Names.{Text, has_name}
 use Rattle.flt_explain_hints.specs.Absences.{absence_of}
 use Rattle.flt_explain_hints.specs.Choices.{are_none, takes}
 use Rattle.flt_explain_hints.specs.Kinds.{begins_callback, is_context_variable, is_fallible, is_final_status, is_plain}
-use Rattle.flt_explain_hints.specs.Kinds.{is_variable, takes_fast_mutex, takes_push_lock, takes_spin_lock}
+use Rattle.flt_explain_hints.specs.Kinds.{is_variable, lock_of}
 use Rattle.flt_explain_hints.specs.declared.absences.Absence.{Absence}
 use Rattle.flt_explain_hints.specs.declared.absences.Absence.TheVariants as absence
 use Rattle.flt_explain_hints.specs.declared.before.KindsBefore.{KindsBefore}
@@ -247,13 +249,15 @@ statement_hint s c =
     else (if is_plain s.found && takes c k.Draining then Some hint.NeverFails
     else between_hint s c)
 
--- a lock that a call takes has to be declared
+-- a lock of the kind has to be declared
+abbrev pub needs_of : LockKind → Hint
+needs_of Spin = hint.NeedsSpinLock
+needs_of Fast = hint.NeedsFastMutex
+needs_of Push = hint.NeedsPushLock
+
+-- the lock that a call takes has to be declared
 abbrev pub needs_lock : Kind → Option Hint
-needs_lock kind =
-    if takes_spin_lock kind then Some hint.NeedsSpinLock
-    else (if takes_fast_mutex kind then Some hint.NeedsFastMutex
-    else (if takes_push_lock kind then Some hint.NeedsPushLock
-    else None))
+needs_lock kind = option_map needs_of (lock_of kind)
 
 -- of what stands in place of a lock's name, where the filter declares no lock that the call takes: nothing may stand there
 abbrev pub lock_hint : Scene → Choices → Option Hint

@@ -1,38 +1,19 @@
 -- The kinds of words that stand in like places. The language of texts.
-use Rattle.std.specs.Prelude.{Bool, true, false, ◌||◌}
+use Rattle.std.specs.Prelude.{Bool, true, false, ◌||◌, List, ◌∷◌, Option, Some, None, is_some}
+use Rattle.flt_rules.specs.declared.call.LockKind.{LockKind}
+use Rattle.flt_syntax.specs.Shape.{fallible_shape_of, plain_shape_of, slots_of}
+use Rattle.flt_syntax.specs.declared.shape.Slot.{Slot}
+use Rattle.flt_syntax.specs.declared.shape.Slot.TheVariants as part
 use Rattle.flt_syntax.specs.declared.token.Kind.{Kind}
 use Rattle.flt_syntax.specs.declared.token.Kind.TheVariants as k
 
 -- calls that can fail
 abbrev pub is_fallible : Kind → Bool
-is_fallible k.AllocateContext = true
-is_fallible k.GetStreamContext = true
-is_fallible k.GetInstanceContext = true
-is_fallible k.SetStreamContext = true
-is_fallible k.SetInstanceContext = true
-is_fallible k.DeleteStreamContext = true
-is_fallible k.DeleteInstanceContext = true
-is_fallible k.InsertIo = true
-is_fallible k.RemoveNextIo = true
-is_fallible k.QueueDeferredIoWorkItem = true
-is_fallible k.QueueGenericWorkItem = true
-is_fallible _ = false
+is_fallible kind = is_some (fallible_shape_of kind)
 
 -- calls that always succeed
 abbrev pub is_plain : Kind → Bool
-is_plain k.DeleteContext = true
-is_plain k.ReferenceContext = true
-is_plain k.ReleaseContext = true
-is_plain k.AcquireSpinLock = true
-is_plain k.ReleaseSpinLock = true
-is_plain k.AcquireFastMutex = true
-is_plain k.ReleaseFastMutex = true
-is_plain k.AcquirePushLock = true
-is_plain k.AcquirePushLockShared = true
-is_plain k.ReleasePushLock = true
-is_plain k.CompletePendedPreOperation = true
-is_plain k.CompletePendedPostOperation = true
-is_plain _ = false
+is_plain kind = is_some (plain_shape_of kind)
 
 -- calls
 abbrev pub is_call : Kind → Bool
@@ -59,24 +40,14 @@ is_final_status k.StatusInvalidParameter = true
 is_final_status k.StatusPending = true
 is_final_status _ = false
 
--- calls that take a spin lock
-abbrev pub takes_spin_lock : Kind → Bool
-takes_spin_lock k.AcquireSpinLock = true
-takes_spin_lock k.ReleaseSpinLock = true
-takes_spin_lock _ = false
+-- the kind of the lock whose name is in the first slot
+abbrev pub lock_among : List Slot → Option LockKind
+lock_among (part.Lock lock ∷ slots) = Some lock
+lock_among _ = None
 
--- calls that take a fast mutex
-abbrev pub takes_fast_mutex : Kind → Bool
-takes_fast_mutex k.AcquireFastMutex = true
-takes_fast_mutex k.ReleaseFastMutex = true
-takes_fast_mutex _ = false
-
--- calls that take a push lock
-abbrev pub takes_push_lock : Kind → Bool
-takes_push_lock k.AcquirePushLock = true
-takes_push_lock k.AcquirePushLockShared = true
-takes_push_lock k.ReleasePushLock = true
-takes_push_lock _ = false
+-- the kind of the lock whose name follows the word of a call
+abbrev pub lock_of : Kind → Option LockKind
+lock_of kind = lock_among (slots_of kind)
 
 -- words that begin a callback
 abbrev pub begins_callback : Kind → Bool

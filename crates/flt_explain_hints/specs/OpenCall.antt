@@ -1,6 +1,9 @@
 -- A call that isn't complete where the text goes on in another line. This project's own rule.
 use Rattle.std.specs.Prelude.{Bool, true, false, not, ◌&&◌, ◌||◌, nat_lt, List, [], ◌∷◌, Option, Some, None, codes, if◌then◌else◌}
 use Rattle.std.specs.List.{fold}
+use Rattle.std.specs.Option.{option_map}
+use Rattle.flt_rules.specs.declared.call.LockKind.{LockKind}
+use Rattle.flt_rules.specs.declared.call.LockKind.TheVariants.{Spin, Fast, Push}
 use Rattle.flt_syntax.specs.Lex.{same_kind}
 use Rattle.flt_syntax.specs.Vocabulary.{vocabulary}
 use Rattle.flt_syntax.specs.declared.fault.FaultKind.{FaultKind}
@@ -12,7 +15,7 @@ use Rattle.flt_tree.specs.Names.{Text}
 use Rattle.flt_explain_hints.specs.Before.{kinds_before, tokens_before}
 use Rattle.flt_explain_hints.specs.Choices.{takes}
 use Rattle.flt_explain_hints.specs.Kinds.{is_call, is_context_variable, is_operand_word, is_operation_variable}
-use Rattle.flt_explain_hints.specs.Kinds.{is_status, takes_fast_mutex, takes_push_lock, takes_spin_lock}
+use Rattle.flt_explain_hints.specs.Kinds.{is_status, lock_of}
 use Rattle.flt_explain_hints.specs.declared.choices.Choices.{Choices}
 use Rattle.flt_explain_hints.specs.declared.open_call.OpenCall.{OpenCall}
 
@@ -71,9 +74,11 @@ abbrev pub word_of : Kind → Text
 word_of kind = word_among vocabulary kind
 
 -- what a call lacks that takes a lock, and how a lock is declared where the filter has none of that kind
+abbrev pub words_of_lock : LockKind → Text × Text
+words_of_lock Spin = (codes "the name of a spin lock", codes "; declare one after the altitude, `lock spin NAME`")
+words_of_lock Fast = (codes "the name of a fast mutex", codes "; declare one after the altitude, `lock fast NAME`")
+words_of_lock Push = (codes "the name of a push lock", codes "; declare one after the altitude, `lock push NAME`")
+
+-- the same of the lock that a call takes
 abbrev pub lock_words : Kind → Option (Text × Text)
-lock_words kind =
-    if takes_spin_lock kind then Some (codes "the name of a spin lock", codes "; declare one after the altitude, `lock spin NAME`")
-    else (if takes_fast_mutex kind then Some (codes "the name of a fast mutex", codes "; declare one after the altitude, `lock fast NAME`")
-    else (if takes_push_lock kind then Some (codes "the name of a push lock", codes "; declare one after the altitude, `lock push NAME`")
-    else None))
+lock_words kind = option_map words_of_lock (lock_of kind)

@@ -12,9 +12,10 @@ use crate::choices::Choices;
 use crate::hint::Hint;
 use crate::kinds::{
     begins_callback, is_context_variable, is_fallible, is_final_status, is_plain, is_variable,
-    takes_fast_mutex, takes_push_lock, takes_spin_lock,
+    lock_of,
 };
 use crate::names::has_name;
+use flt_rules::LockKind;
 use flt_syntax::{FaultKind, Kind, same_kind};
 
 /// The token where a text is refused, and its surroundings.
@@ -412,14 +413,11 @@ fn statement_hint(scene: Scene<'_>, choices: &Choices<'_>) -> Option<Hint>
 fn needs_lock(kind: Kind) -> Option<Hint>
     ensures { result ≡ spec.needs_lock kind }
 {
-    if takes_spin_lock(kind) {
-        Some(Hint::NeedsSpinLock)
-    } else if takes_fast_mutex(kind) {
-        Some(Hint::NeedsFastMutex)
-    } else if takes_push_lock(kind) {
-        Some(Hint::NeedsPushLock)
-    } else {
-        None
+    match lock_of(kind) {
+        Some(LockKind::Spin) => Some(Hint::NeedsSpinLock),
+        Some(LockKind::Fast) => Some(Hint::NeedsFastMutex),
+        Some(LockKind::Push) => Some(Hint::NeedsPushLock),
+        None => None,
     }
 }
 

@@ -3,45 +3,19 @@
 ghost use Rattle.std.specs.Prelude.{◌≡◌};
 ghost use Rattle.flt_explain_hints.specs.Kinds as spec;
 
-use flt_syntax::Kind;
+use flt_rules::LockKind;
+use flt_syntax::{Kind, Slot, fallible_shape_of, plain_shape_of, slots_of};
 
 pub(crate) fn is_fallible(kind: Kind) -> bool
     ensures { result ≡ spec.is_fallible kind }
 {
-    matches!(
-        kind,
-        Kind::AllocateContext
-            | Kind::GetStreamContext
-            | Kind::GetInstanceContext
-            | Kind::SetStreamContext
-            | Kind::SetInstanceContext
-            | Kind::DeleteStreamContext
-            | Kind::DeleteInstanceContext
-            | Kind::InsertIo
-            | Kind::RemoveNextIo
-            | Kind::QueueDeferredIoWorkItem
-            | Kind::QueueGenericWorkItem
-    )
+    fallible_shape_of(kind).is_some()
 }
 
 pub(crate) fn is_plain(kind: Kind) -> bool
     ensures { result ≡ spec.is_plain kind }
 {
-    matches!(
-        kind,
-        Kind::DeleteContext
-            | Kind::ReferenceContext
-            | Kind::ReleaseContext
-            | Kind::AcquireSpinLock
-            | Kind::ReleaseSpinLock
-            | Kind::AcquireFastMutex
-            | Kind::ReleaseFastMutex
-            | Kind::AcquirePushLock
-            | Kind::AcquirePushLockShared
-            | Kind::ReleasePushLock
-            | Kind::CompletePendedPreOperation
-            | Kind::CompletePendedPostOperation
-    )
+    plain_shape_of(kind).is_some()
 }
 
 pub(crate) fn is_call(kind: Kind) -> bool
@@ -80,25 +54,14 @@ pub(crate) fn is_final_status(kind: Kind) -> bool
     )
 }
 
-pub(crate) fn takes_spin_lock(kind: Kind) -> bool
-    ensures { result ≡ spec.takes_spin_lock kind }
+/// The kind of the lock whose name follows the word of a call.
+pub(crate) fn lock_of(kind: Kind) -> Option<LockKind>
+    ensures { result ≡ spec.lock_of kind }
 {
-    matches!(kind, Kind::AcquireSpinLock | Kind::ReleaseSpinLock)
-}
-
-pub(crate) fn takes_fast_mutex(kind: Kind) -> bool
-    ensures { result ≡ spec.takes_fast_mutex kind }
-{
-    matches!(kind, Kind::AcquireFastMutex | Kind::ReleaseFastMutex)
-}
-
-pub(crate) fn takes_push_lock(kind: Kind) -> bool
-    ensures { result ≡ spec.takes_push_lock kind }
-{
-    matches!(
-        kind,
-        Kind::AcquirePushLock | Kind::AcquirePushLockShared | Kind::ReleasePushLock
-    )
+    match slots_of(kind) {
+        [Slot::Lock(lock), ..] => Some(*lock),
+        _ => None,
+    }
 }
 
 pub(crate) fn begins_callback(kind: Kind) -> bool

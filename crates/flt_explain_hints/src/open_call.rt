@@ -7,9 +7,9 @@ ghost use Rattle.flt_explain_hints.specs.OpenCall as spec;
 use crate::before::kinds_before;
 use crate::choices::Choices;
 use crate::kinds::{
-    is_call, is_context_variable, is_operand_word, is_operation_variable, is_status,
-    takes_fast_mutex, takes_push_lock, takes_spin_lock,
+    is_call, is_context_variable, is_operand_word, is_operation_variable, is_status, lock_of,
 };
+use flt_rules::LockKind;
 use flt_syntax::{FaultKind, Kind, Token, keywords, same_kind};
 
 /// A call that lacks an operand: its word, and the line of that word, from 1.
@@ -157,14 +157,11 @@ impl OpenCall {
     pub(crate) fn lock(self) -> Option<LockWords>
         ensures { option_map (λ lock. (lock.name.now, lock.declaration.now)) result ≡ spec.lock_words self.kind }
     {
-        if takes_spin_lock(self.kind) {
-            Some(SPIN_LOCK)
-        } else if takes_fast_mutex(self.kind) {
-            Some(FAST_MUTEX)
-        } else if takes_push_lock(self.kind) {
-            Some(PUSH_LOCK)
-        } else {
-            None
+        match lock_of(self.kind) {
+            Some(LockKind::Spin) => Some(SPIN_LOCK),
+            Some(LockKind::Fast) => Some(FAST_MUTEX),
+            Some(LockKind::Push) => Some(PUSH_LOCK),
+            None => None,
         }
     }
 }

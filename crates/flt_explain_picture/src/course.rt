@@ -32,16 +32,6 @@ pub(crate) struct Course<'b, 'a> {
     are_more: bool,
 }
 
-fn line_of(statement: &Statement) -> usize {
-    match statement {
-        Statement::Act(span, _)
-        | Statement::Call(span, _)
-        | Statement::Return(span, _)
-        | Statement::If(span, _, _, _)
-        | Statement::Repeat(span, _, _) => span.line,
-    }
-}
-
 impl<'b, 'a> Course<'b, 'a> {
     pub(crate) fn new(
         alloc: Global,
@@ -79,7 +69,7 @@ impl<'b, 'a> Course<'b, 'a> {
     /// The line of the next statement in an activation; none at the end of its body.
     fn next_line(&mut self, activation: usize) -> Result<Option<usize>, AllocError> {
         Ok(match upcoming(&mut self.world, activation)? {
-            Some(Upcoming::Statement(statement)) => Some(line_of(statement)),
+            Some(Upcoming::Statement(statement)) => Some(statement.span().line),
             Some(Upcoming::Repeat(span, _, _)) => Some(span.line),
             None => None,
         })

@@ -10,21 +10,6 @@ use flt_tree::Tree;
 use std::alloc::{AllocError, Global};
 use std::fmt::Write;
 
-fn violation_word(violation: Violation) -> &'static str
-    ensures { result.now ≡ spec.violation_word violation }
-{
-    match violation {
-        Violation::V1 => "V1",
-        Violation::V2 => "V2",
-        Violation::V3 => "V3",
-        Violation::V4 => "V4",
-        Violation::V5 => "V5",
-        Violation::V6 => "V6",
-        Violation::V7 => "V7",
-        Violation::V8 => "V8",
-    }
-}
-
 /// The violation, in words.
 pub(crate) fn broken_words(violation: Violation) -> &'static str
     ensures { result.now ≡ spec.broken_words violation }
@@ -38,19 +23,6 @@ pub(crate) fn broken_words(violation: Violation) -> &'static str
         Violation::V6 => "above its level",
         Violation::V7 => "lock discipline",
         Violation::V8 => "not at this place",
-    }
-}
-
-fn put_verdict(out: &mut String, verdict: Verdict) -> Result<(), AllocError>
-    ensures { Puts result (string_bytes out.old) (string_bytes out.new) (spec.verdict_words verdict) }
-{
-    match verdict {
-        Verdict::Legal => out.push_str("legal"),
-        Verdict::NotARun(entry) => write!(out, "not a run at {entry}"),
-        Verdict::Breaks(violation, entry) => {
-            let word = violation_word(violation);
-            write!(out, "breaks {word} at {entry}")
-        }
     }
 }
 
@@ -98,6 +70,6 @@ pub(crate) fn title_of(
     let mut out = String::new(alloc);
     put_names(&mut out, trees)?;
     out.push_str(": ")?;
-    put_verdict(&mut out, verdict)?;
+    write!(out, "{verdict}")?;
     Ok(out)
 }

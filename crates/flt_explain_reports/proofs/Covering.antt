@@ -213,7 +213,8 @@ within (y ∷ ys) zero x is = omega arith
 within (y ∷ ys) (suc k) x is = let rest = within ys k x is in omega (arith, rest)
 
 -- the first findings of the groups are those to which all others are akin
-pub are_firsts : (found : List Finding) (shown : List FindingTrace) → AreFirsts found (map number_of (groups_of (traced_from 0 found shown)))
+pub are_firsts : (found : List Finding) (shown : List FindingTrace) →
+    AreFirsts found (map number_of (groups_of (traced_from 0 found shown)))
 are_firsts found shown = record {
   rise = rising xs xs (ascending shown 0 found);
   within = all_of (λ n. n < length found) (map number_of gs) (mapped number_of (λ n. n < length found) gs

@@ -15,7 +15,8 @@ numbers_are traces [] = refl
 numbers_are traces (x ∷ groups) = ap (λ ns. x.first.number ∷ ns) (numbers_are traces groups)
 
 -- they are findings to which all others are akin
-pub reported_are_firsts : (g : Graph) (found : List Finding) (traces : Traces) (all : List ReportedFinding) → AreReportedBy g found traces all →
+pub reported_are_firsts : (g : Graph) (found : List Finding) (traces : Traces) (all : List ReportedFinding) →
+    AreReportedBy g found traces all →
     AreFirsts found (numbers_of all)
 reported_are_firsts g found traces all are =
     let numbers : numbers_of all ≡ map number_of traces.groups = ap numbers_of are.each ∙ numbers_are traces traces.groups in

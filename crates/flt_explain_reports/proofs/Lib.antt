@@ -1,4 +1,3 @@
-pub mod Codes
 pub mod Covering
 pub mod Firsts
 pub mod Placing

@@ -13,8 +13,8 @@ use Rattle.flt_tree.specs.Names.{Text}
 use Rattle.flt_tree.specs.declared.filter.Position.{Position}
 use Rattle.flt_explain_ways.specs.declared.answer.Answer.{Answer}
 use Rattle.flt_explain_ways.specs.declared.answer.Answer.TheVariants as answer
-use Rattle.flt_explain_details.specs.Closing.{rule_name}
 use Rattle.flt_explain_details.specs.Page.{line_told, shown}
+use Rattle.flt_rules.specs.Rule.{rule_name}
 use Rattle.flt_explain_details.specs.Tracing.{other_way, way_of}
 use Rattle.flt_explain_details.specs.declared.study.Words.{Words}
 use Rattle.flt_explain_details.specs.declared.tracing.FindingTrace.{FindingTrace}

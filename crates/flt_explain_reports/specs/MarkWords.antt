@@ -5,6 +5,7 @@ use Rattle.flt_explain.specs.declared.finding.Finding.{Finding}
 use Rattle.flt_explain.specs.declared.finding.Subject.{Subject}
 use Rattle.flt_explain.specs.declared.finding.Subject.TheVariants as about
 use Rattle.flt_graph.specs.Graph.{instruction_at}
+use Rattle.flt_graph.specs.Instruction.{roles}
 use Rattle.flt_graph.specs.declared.graph.Graph.{Graph}
 use Rattle.flt_graph.specs.declared.instruction.Instruction.{Instruction}
 use Rattle.flt_graph.specs.declared.instruction.Instruction.TheVariants as instruction
@@ -39,7 +40,7 @@ lost_by _ true = codes "completed"
 
 -- the same of an instruction, if it is a call
 unfoldable pub lost_at : Instruction → Bool → Option Text
-lost_at (instruction.Call c granted failed) is_operation = Some (lost_by c.call is_operation)
+lost_at (instruction.Call c granted failed) is_operation = Some (lost_by (roles c).call is_operation)
 lost_at _ is_operation = None
 
 -- what a step does to what it makes stale; nothing where it makes another fact

@@ -1,7 +1,6 @@
 //! The report of a finding and of the others of its group.
 
 ghost use Rattle.std.specs.Prelude.{◌≡◌, map, option_copied};
-ghost use Rattle.flt_explain_details.specs.Closing.{rule_name};
 ghost use Rattle.flt_explain_details.specs.Page.{Writes};
 ghost use Rattle.flt_explain_reports.specs.Finding as spec;
 ghost use Rattle.flt_explain_reports.specs.Indents.{headed};
@@ -14,34 +13,9 @@ use flt_explain::Finding;
 use flt_explain_details::{FindingTrace, Page, Part, Scene, Words};
 use flt_explain_ways::{Answer, TracedFinding};
 use flt_places::{Files, lines_of};
-use flt_rules::Rule;
 use std::alloc::{AllocError, Global};
 
 // ---- what is wrong, and where
-
-/// The code of a rule, from `R01` to `R15`.
-#[tactic(auto, using(crate::proofs::Codes::named))]
-fn code(rule: Rule) -> &'static str
-    ensures { result.now ≡ rule_name rule }
-{
-    match rule {
-        Rule::R01 => "R01",
-        Rule::R02 => "R02",
-        Rule::R03 => "R03",
-        Rule::R04 => "R04",
-        Rule::R05 => "R05",
-        Rule::R06 => "R06",
-        Rule::R07 => "R07",
-        Rule::R08 => "R08",
-        Rule::R09 => "R09",
-        Rule::R10 => "R10",
-        Rule::R11 => "R11",
-        Rule::R12 => "R12",
-        Rule::R13 => "R13",
-        Rule::R14 => "R14",
-        Rule::R15 => "R15",
-    }
-}
 
 /// Writes the head of a callback in backquotes.
 #[tactic(auto, unfolding(crate::specs::Finding::head_told))]
@@ -71,7 +45,7 @@ fn tell_head(
     ensures { Writes result page.old page.new
         (spec.head_lines coloured scene.now.files scene.now.lines.now scene.now.graph.now finding.now words.now) }
 {
-    let code = Some(code(finding.rule));
+    let code = Some(finding.rule.name());
     let site = scene.site(finding.callback, finding.point);
     let name = name_at(&scene.files, site.place.line);
     tell_heading(page, coloured, code, words.title.as_slice(), name)?;

@@ -44,7 +44,7 @@ fn lost_at(instruction: &Instruction, is_operation: bool) -> Option<&'static str
     ensures { option_copied result ≡ spec.lost_at instruction.now is_operation }
 {
     match instruction {
-        Instruction::Call(call, _, _) => Some(lost_by(call.call, is_operation)),
+        Instruction::Call(call, _, _) => Some(lost_by(call.roles().call, is_operation)),
         _ => None,
     }
 }

@@ -84,7 +84,8 @@ pub together_found : (trees : List Tree) (n : ℕ) (f : Finding) (a : Option (Bo
 together_found trees n f (Some b) is = found_of trees n f b.now is
 together_found trees n f None is = tt
 
-may_of : (trees : List Tree) (n : ℕ) (f : Finding) (a : Answer) (b : BreakingJournal) → a ≡ Breaks b → IsTogetherFor trees n f a → MayMeet trees n
+may_of : (trees : List Tree) (n : ℕ) (f : Finding) (a : Answer) (b : BreakingJournal) →
+    a ≡ Breaks b → IsTogetherFor trees n f a → MayMeet trees n
 may_of trees n f a b is together = (subst (IsTogetherFor trees n f) is together).1
 
 -- and they may meet then

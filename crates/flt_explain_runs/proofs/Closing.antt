@@ -1,8 +1,10 @@
 -- The lines that end reports are quiet.
 use Rattle.std.proofs.Common.{◌≡◌, ℕ, true, false, List, [], ◌∷◌, ◌++◌, refl, append_assoc}
-use Rattle.std.specs.Prelude.{codes, nat_lt, ◌==◌, if◌then◌else◌, Bool}
+use Rattle.std.specs.Prelude.{codes, ◌==◌, if◌then◌else◌, Bool}
 use Rattle.std.specs.Fmt.{decimal}
-use Rattle.flt_rules.specs.Rule.{number, text}
+use Rattle.flt_rules.specs.Refusal.{place_words, refusal_line, refusal_words, rule_words}
+use Rattle.flt_rules.specs.Rule.{rule_name, text}
+use Rattle.flt_rules.specs.declared.refusal.Refusal.{Refusal}
 use Rattle.flt_rules.specs.declared.rule.Rule.{Rule}
 use Rattle.flt_rules.specs.declared.rule.Rule.TheVariants.{R01, R02, R03, R04, R05, R06, R07, R08, R09, R10, R11, R12, R13, R14, R15}
 use Rattle.flt_syntax.specs.declared.fault.FaultKind.{FaultKind}
@@ -13,9 +15,8 @@ use Rattle.flt_explain_reasons.specs.Notice as notices
 use Rattle.flt_explain_reasons.specs.declared.notice.Kind.TheVariants.{Certificate, Journal, Script}
 use Rattle.flt_explain_reasons.specs.declared.notice.Notice.{Notice}
 use Rattle.flt_explain_reasons.specs.declared.notice.Notice.TheVariants.{Whole, Malformed}
-use Rattle.flt_places.specs.Files.{file_line}
 use Rattle.flt_places.specs.declared.files.Files.{Files}
-use Rattle.flt_explain_details.specs.Closing.{fault_closing, fault_in, fault_name, findings_closing, refusal_line, rule_name, syntax_line}
+use Rattle.flt_explain_details.specs.Closing.{fault_closing, fault_in, fault_name, findings_closing, refusal_in, syntax_line}
 use Rattle.flt_explain_runs.specs.Quiet.{is_quiet}
 use Rattle.flt_explain_runs.specs.Totals.{found_in, summary}
 use Rattle.flt_explain_runs.proofs.QuietLines.{Plain, plain_both, plain_decimal, quiet_number}
@@ -37,28 +38,45 @@ plain_rule R13 = record { goes_on = λ rest. refl }
 plain_rule R14 = record { goes_on = λ rest. refl }
 plain_rule R15 = record { goes_on = λ rest. refl }
 
-plain_zero : (low : Bool) → Plain (if low then codes "0" else [])
-plain_zero true = record { goes_on = λ rest. refl }
-plain_zero false = record { goes_on = λ rest. refl }
-
 plain_name : (r : Rule) → Plain (rule_name r)
-plain_name r = plain_both (codes "R") ((if nat_lt (number r) 10 then codes "0" else []) ++ decimal (number r))
-    (record { goes_on = λ rest. refl })
-    (plain_both (if nat_lt (number r) 10 then codes "0" else []) (decimal (number r)) (plain_zero (nat_lt (number r) 10))
-    (plain_decimal (number r)))
+plain_name R01 = record { goes_on = λ rest. refl }
+plain_name R02 = record { goes_on = λ rest. refl }
+plain_name R03 = record { goes_on = λ rest. refl }
+plain_name R04 = record { goes_on = λ rest. refl }
+plain_name R05 = record { goes_on = λ rest. refl }
+plain_name R06 = record { goes_on = λ rest. refl }
+plain_name R07 = record { goes_on = λ rest. refl }
+plain_name R08 = record { goes_on = λ rest. refl }
+plain_name R09 = record { goes_on = λ rest. refl }
+plain_name R10 = record { goes_on = λ rest. refl }
+plain_name R11 = record { goes_on = λ rest. refl }
+plain_name R12 = record { goes_on = λ rest. refl }
+plain_name R13 = record { goes_on = λ rest. refl }
+plain_name R14 = record { goes_on = λ rest. refl }
+plain_name R15 = record { goes_on = λ rest. refl }
 
-plain_refusal : (f : Finding) (line : ℕ) → Plain (refusal_line f line)
-plain_refusal f line =
-    plain_both _ (text f.rule) (plain_both _ (codes " ") (plain_both _ (rule_name f.rule) (plain_both _ (codes " ")
-    (plain_both _ (decimal line) (plain_both _ (codes " line ") (plain_both _ (decimal f.point) (plain_both _ (codes " point ")
-    (plain_both (codes "refused callback ") (decimal f.callback) (record { goes_on = λ rest. refl }) (plain_decimal f.callback))
-    (record { goes_on = λ rest. refl })) (plain_decimal f.point)) (record { goes_on = λ rest. refl })) (plain_decimal line))
-    (record { goes_on = λ rest. refl })) (plain_name f.rule)) (record { goes_on = λ rest. refl })) (plain_rule f.rule)
+plain_place : (f : Refusal) → Plain (place_words f)
+plain_place f =
+    plain_both _ (decimal f.line) (plain_both _ (codes " line ") (plain_both _ (decimal f.point) (plain_both _ (codes " point ")
+    (plain_both (codes "callback ") (decimal f.callback) (record { goes_on = λ rest. refl }) (plain_decimal f.callback))
+    (record { goes_on = λ rest. refl })) (plain_decimal f.point)) (record { goes_on = λ rest. refl })) (plain_decimal f.line)
+
+plain_broken : (r : Rule) → Plain (rule_words r)
+plain_broken r =
+    plain_both _ (text r) (plain_both (rule_name r) (codes " ") (plain_name r) (record { goes_on = λ rest. refl })) (plain_rule r)
+
+plain_words : (f : Refusal) → Plain (refusal_words f)
+plain_words f =
+    plain_both _ (rule_words f.rule) (plain_both (place_words f) (codes " ") (plain_place f) (record { goes_on = λ rest. refl }))
+    (plain_broken f.rule)
+
+plain_refusal : (f : Refusal) → Plain (refusal_line f)
+plain_refusal f = plain_both (codes "refused ") (refusal_words f) (record { goes_on = λ rest. refl }) (plain_words f)
 
 -- the line that ends the reports of findings is quiet
 pub quiet_findings : (files : Files) (found : List Finding) → is_quiet (findings_closing files found) ≡ true
 quiet_findings files [] = refl
-quiet_findings files (f ∷ found) = (plain_refusal f (file_line files f.line)).goes_on (10 ∷ [])
+quiet_findings files (f ∷ found) = (plain_refusal (refusal_in files f)).goes_on (10 ∷ [])
 
 plain_fault : (k : FaultKind) → Plain (fault_name k)
 plain_fault E01 = record { goes_on = λ rest. refl }

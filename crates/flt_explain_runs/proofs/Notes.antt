@@ -84,7 +84,10 @@ all_notes trees k r t are firsts notes = record {
 pub no_notes : (trees : List Tree) (k : ParsedText) (notes : List Note) → k.found.now ≡ [] → notes ≡ [] → AreAllNotes trees k notes
 no_notes trees k notes none unnoted = rw (none, unnoted) (record {
   each = no_note;
-  reported = record { traces = record { shown = []; groups = [] }; are = record { traced = record { each = tt; groups = refl }; each = refl } };
+  reported = record {
+    traces = record { shown = []; groups = [] };
+    are = record { traced = record { each = tt; groups = refl }; each = refl };
+  };
   firsts = record { rise = tt; within = All-nil (λ n. n < 0); covers = λ own f is. absurd (cc is) };
 })
 

@@ -50,7 +50,7 @@ use Rattle.flt_explain_runs.specs.declared.readings.Reading.TheVariants as readi
 use Rattle.flt_explain_runs.specs.declared.readings.StudiedText.{StudiedText}
 use Rattle.flt_explain_runs.proofs.Closing.{quiet_fault, quiet_findings, quiet_notice}
 use Rattle.flt_explain_runs.proofs.QuietLines.{quieted_same}
-use Rattle.flt_explain_runs.proofs.Said.{five_behind, said_known, said_notice, said_unread}
+use Rattle.flt_explain_runs.proofs.Said.{said_known, said_notice, said_unread}
 
 -- ---- blocks
 
@@ -76,7 +76,8 @@ module _ (look : Look) (trees : List Tree) (files : List Files) (own : Files) (t
     all_blocks groups notes i blocks h many are =
         let enough : length notes ≤ i = omega (arith, h, many) in
         subst (λ ns. AreBlocks look trees files own text f graph traces groups ns (flat_map block_bytes blocks)) (take_all i notes enough)
-        (subst (λ gs. AreBlocks look trees files own text f graph traces gs (take i notes) (flat_map block_bytes blocks)) (take_all i groups h)
+        (subst (λ gs. AreBlocks look trees files own text f graph traces gs (take i notes) (flat_map block_bytes blocks))
+        (take_all i groups h)
         are)
 
 -- the lines on runs of a block are those of its note
@@ -283,22 +284,3 @@ module _ (look : Look) (trees : List Tree) (files : List Files) (s : StudiedText
     print = rw same print;
   }
   other_part kind (Err e) same print none = tt
-
--- ---- what is written
-
--- one block more
-pub one_written : (blocks : List Block) (i : ℕ) (b : Block) (first old a c d e new : List ℕ) → i < length blocks → b ≡ get_or blocks i b →
-    old ≡ first ++ flat_map block_bytes (take i blocks) → a ≡ old ++ quieted b.report.items → c ≡ a ++ b.note.line.items →
-    d ≡ c ++ quieted b.note.rows.items → e ≡ d ++ b.again.line.items → new ≡ e ++ quieted b.again.rows.items →
-    new ≡ first ++ flat_map block_bytes (take (i + 1) blocks)
-one_written blocks i b first old a c d e new h is before report line rows again more =
-    let next : take (i + 1) blocks ≡ take i blocks ++ b ∷ [] =
-    take_more blocks i b h ∙ ap (λ x. take i blocks ++ x ∷ []) (sym is) in
-    let own : new ≡ old ++ block_bytes b =
-    more ∙ ap (λ z. z ++ quieted b.again.rows.items)
-    (again ∙ ap (λ z. z ++ b.again.line.items) (rows ∙ ap (λ z. z ++ quieted b.note.rows.items)
-    (line ∙ ap (λ z. z ++ b.note.line.items) report)))
-    ∙ sym (five_behind old (quieted b.report.items) b.note.line.items (quieted b.note.rows.items) b.again.line.items
-    (quieted b.again.rows.items)) in
-    own ∙ ap (λ z. z ++ block_bytes b) before ∙ flat_map_more block_bytes first (take i blocks) b
-    ∙ ap (λ bs. first ++ flat_map block_bytes bs) (sym next)

@@ -1,5 +1,6 @@
 -- What comes of findings in runs, with one more callback and without it.
-use Rattle.std.proofs.Common.{◌≡◌, ◌<◌, ℕ, zero, suc, false, List, [], ◌∷◌, ◌++◌, Option, Some, None, IfSome, sym, ap, arith, subst, ◌∙◌, ◌+◌}
+use Rattle.std.proofs.Common.{◌≡◌, ◌<◌, ℕ, zero, suc, false, List, [], ◌∷◌, ◌++◌, Option}
+use Rattle.std.proofs.Common.{Some, None, IfSome, sym, ap, arith, subst, ◌∙◌, ◌+◌}
 use Rattle.std.proofs.Common.{All, append_assoc, drop, get_or, length, length-drop, reverse, slice_get, string_bytes, take}
 use Rattle.std.specs.Prelude.{◌≢◌}
 use Rattle.std.proofs.lemmas.List.{drop_more, reverse-append, take_more}

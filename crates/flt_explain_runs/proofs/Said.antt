@@ -47,8 +47,7 @@ said_both trees states ns p first (note notes printed n rows said quiet) =
 said_quieted : (trees : List Tree) (states : ℕ) (lines : List ℕ) → Say trees states [] (quieted lines)
 said_quieted trees states lines = others [] [] (quieted lines) nothing (quiet_quieted lines)
 
--- five pieces that come last
-pub five_behind : (o a b c d e : List ℕ) → o ++ (a ++ b ++ c ++ d ++ e) ≡ o ++ a ++ b ++ c ++ d ++ e
+five_behind : (o a b c d e : List ℕ) → o ++ (a ++ b ++ c ++ d ++ e) ≡ o ++ a ++ b ++ c ++ d ++ e
 five_behind o a b c d e = simp append_assoc
 
 module _ (look : Look) (trees : List Tree) (files : List Files) where

@@ -89,7 +89,8 @@ told_more look trees files each s notes printed total part are is placed own = r
       s.reading part are.prints placed (unnoted trees s.source.text.now s.reading (notes_in part) own.notes) own.print);
 }
 
-pub printed_more : (look : Look) (trees : List Tree) (files : List Files) (each : List StudiedText) (s : StudiedText) (old new : PrintedTexts) →
+pub printed_more : (look : Look) (trees : List Tree) (files : List Files) (each : List StudiedText)
+    (s : StudiedText) (old new : PrintedTexts) →
     ArePrinted look trees files each old → IsStudied trees s → IsPlaced (known_in each) s.reading →
     IsMore look trees files s (10 ∷ []) old new → ArePrinted look trees files (each ++ s ∷ []) new
 printed_more look trees files each s old new are is placed more =
@@ -222,17 +223,6 @@ put_out look trees files all each s behind old new false a b parsed is are more 
           (subst (λ ss. AreParsed (texts_of ss) (filters_of trees)) sources parsed)));
       late = λ h. absurd (cc h);
     }
-
--- nothing is put out of nothing
-pub put_out_none : (options : WarningOptions) (states : ℕ) (held : Bool) (a : Option (List ℕ)) (p : PrintedTexts) →
-    p.bytes.items ≡ [] → p.sent ≡ 0 →
-    IsPutOut options [] states held a a p
-put_out_none options states held a p bytes sent = record {
-  within = rw (sent, bytes) (omega arith);
-  added = rw sent (appends_none a);
-  early = λ h. rw sent refl;
-  late = λ h. sent;
-}
 
 -- where it ends before, the reports of the first are put out
 pub cut_here : (look : Look) (trees : List Tree) (files : List Files) (each : List StudiedText) (n i : ℕ) (p : PrintedTexts) (held : Bool)
@@ -388,5 +378,6 @@ module _ (look : Look) (trees : List Tree) (files : List Files) (each : List Stu
       HoldsBack held old → (held ≡ true → b ≡ a) → (held ≡ false → Appends a b old.bytes.items) →
       IsPutOut look.options (sources_read each) look.states held a b new
   all_sent held a b parsed kept holds none out =
-      put_out look trees files each (take (length each - 1) each) last (ending new.total.findings new.total.files (length each)) old new held
+      put_out look trees files each (take (length each - 1) each) last
+      (ending new.total.findings new.total.files (length each)) old new held
       a b parsed (with_last each last some is) front more kept holds none out

@@ -54,7 +54,8 @@ pub one_taken : (each : List StudiedText) (i : ℕ) (s : StudiedText) →
 one_taken each i s h is = take_more each i s h ∙ ap (λ x. take i each ++ x ∷ []) (sym is)
 
 -- one more text
-studied_push : (trees : List Tree) (place : ℕ) (each : List StudiedText) (s : StudiedText) → AreStudied trees place each → IsStudied trees s →
+studied_push : (trees : List Tree) (place : ℕ) (each : List StudiedText) (s : StudiedText) →
+    AreStudied trees place each → IsStudied trees s →
     IsPlaced (place + known_in each) s.reading → AreStudied trees place (each ++ s ∷ [])
 studied_push trees place [] s are is placed =
     let same : place + 0 ≡ place = omega arith in (is, subst (λ n. IsPlaced n s.reading) same placed, tt)
@@ -175,13 +176,15 @@ studied_taken trees place [] (suc n) are = tt
 studied_taken trees place (s ∷ each) (suc n) are = (are.0, are.1, studied_taken trees (place + known s.reading) each n are.2)
 
 -- a text among those that were taken is studied
-pub studied_here : (trees : List Tree) (each : List StudiedText) (n i : ℕ) (s : StudiedText) → AreStudied trees 0 each → i < length (take n each) →
+pub studied_here : (trees : List Tree) (each : List StudiedText) (n i : ℕ) (s : StudiedText) →
+    AreStudied trees 0 each → i < length (take n each) →
     s ≡ get_or (take n each) i s → IsStudied trees s
 studied_here trees each n i s are h is =
     subst (IsStudied trees) (sym is) (studied_at trees 0 (take n each) i s (studied_taken trees 0 each n are) h)
 
 -- a text among those that were taken has its place by the filters before it
-pub placed_here : (trees : List Tree) (each : List StudiedText) (n i : ℕ) (s : StudiedText) → AreStudied trees 0 each → i < length (take n each) →
+pub placed_here : (trees : List Tree) (each : List StudiedText) (n i : ℕ) (s : StudiedText) →
+    AreStudied trees 0 each → i < length (take n each) →
     s ≡ get_or (take n each) i s → IsPlaced (known_in (take i (take n each))) s.reading
 placed_here trees each n i s are h is =
     let here = placed_at trees 0 (take n each) i s (studied_taken trees 0 each n are) h in
@@ -210,9 +213,3 @@ pub with_last : (each : List StudiedText) (s : StudiedText) → 1 ≤ length eac
 with_last each s some is =
     let all : length each ≤ length each - 1 + 1 = omega (arith, some) in
     sym (take_all (length each - 1 + 1) each all) ∙ one_taken each (length each - 1) s (omega (arith, some)) is
-
--- what is there is there whatever would stand in its place
-pub here : (each : List StudiedText) (i : ℕ) (d : StudiedText) → i < length each → get_or each i d ≡ get_or each i (get_or each i d)
-here [] i d h = absurd (omega (arith, h))
-here (s ∷ each) zero d h = refl
-here (s ∷ each) (suc i) d h = here each i d (omega (arith, h))

@@ -14,6 +14,7 @@ use Rattle.flt_tree.specs.declared.filter.Status.{Status}
 use Rattle.flt_tree.specs.declared.variable.ContextVariable.{ContextVariable}
 use Rattle.flt_tree.specs.declared.variable.ContextVariable.TheVariants.{Arg}
 use Rattle.flt_graph.specs.Graph.{place_at}
+use Rattle.flt_graph.specs.Instruction.{roles}
 use Rattle.flt_graph.specs.declared.graph.CallbackGraph.{CallbackGraph}
 use Rattle.flt_graph.specs.declared.graph.Graph.{Graph}
 use Rattle.flt_graph.specs.declared.graph.Point.{Point}
@@ -53,7 +54,7 @@ is_handed_by_status _ st _ = false
 
 -- what is done at a point of a callback at the first place
 abbrev pub is_handed_by : Place → Instruction → ℕ → Place → Bool
-is_handed_by from (instruction.Call c granted failed) n p = is_handed_by_call c n p
+is_handed_by from (instruction.Call c granted failed) n p = is_handed_by_call (roles c) n p
 is_handed_by from (instruction.Return st) n p = is_handed_by_status from st p
 is_handed_by from _ n p = false
 
@@ -72,7 +73,7 @@ is_argument _ = false
 
 -- a call writes `arg`
 abbrev pub is_written_by : Instruction → Bool
-is_written_by (instruction.Call c granted failed) = option_map_or is_argument c.output false
+is_written_by (instruction.Call c granted failed) = option_map_or is_argument (roles c).output false
 is_written_by _ = false
 
 abbrev pub is_written_in : CallbackGraph → Bool

@@ -7,11 +7,12 @@ use Rattle.flt_rules.specs.declared.place.Place.{Place}
 use Rattle.flt_rules.specs.declared.place.Place.TheVariants as place
 use Rattle.flt_tree.specs.declared.tree.Tree.{Tree}
 use Rattle.flt_model.specs.JournalText.{Entries}
+use Rattle.flt_model.specs.Verdicts.{verdict_line, violation_name}
 use Rattle.flt_model.specs.declared.moves.JournalEntry.{JournalEntry}
 use Rattle.flt_model.specs.declared.moves.JournalEntry.TheVariants as entries
 use Rattle.flt_model.specs.declared.moves.Move.TheVariants as moves
+use Rattle.flt_model.specs.declared.verdict.Verdict.TheVariants as verdicts
 use Rattle.flt_model.specs.declared.verdict.Violation.{Violation}
-use Rattle.flt_model.specs.declared.verdict.Violation.TheVariants.{V1, V2, V3, V4, V5, V6, V7, V8}
 use Rattle.flt_search.specs.declared.judging.BreakingJournal.{BreakingJournal}
 use Rattle.flt_explain_runs.specs.declared.schedules.Schedule.{Schedule}
 use Rattle.flt_explain_runs.specs.declared.schedules.Schedule.TheVariants.{Breaks, NotWithin, Cut, NeverHanded, NeverStarted, NeverGot}
@@ -21,21 +22,6 @@ use Rattle.flt_explain_runs.specs.declared.noted.SetterOutcome.TheVariants.{Runs
 use Rattle.flt_explain_runs.specs.declared.noted.Note.{Note}
 
 -- ---- a run
-
--- the number of a violation
-abbrev pub violation_number : Violation → ℕ
-violation_number V1 = 1
-violation_number V2 = 2
-violation_number V3 = 3
-violation_number V4 = 4
-violation_number V5 = 5
-violation_number V6 = 6
-violation_number V7 = 7
-violation_number V8 = 8
-
--- what a journal breaks, and where, as `replay` says it
-abbrev pub break_words : Violation → ℕ → List ℕ
-break_words v n = codes "breaks V" ++ decimal (violation_number v) ++ codes " at " ++ decimal n
 
 -- an operation arrives
 abbrev pub is_arrival : JournalEntry → Bool
@@ -74,7 +60,7 @@ abbrev pub on : List Tree → List Tree → List ℕ
 on trees own = if nat_lt 1 (length trees) then names (codes ", on ") own else []
 
 abbrev pub run_words : List Tree → List Tree → BreakingJournal → List ℕ
-run_words trees own b = break_words b.violation b.entry ++ lengths b.journal ++ on trees own
+run_words trees own b = verdict_line (verdicts.Breaks b.violation b.entry) ++ lengths b.journal ++ on trees own
 
 -- ---- no run
 
@@ -94,8 +80,7 @@ never_got false instance = codes "no callback of this text sets an instance cont
 -- a run that was shown before breaks this too
 abbrev pub also_words : Violation → List ℕ
 also_words v =
-    codes "the run above breaks V" ++ decimal (violation_number v)
-    ++ codes " by the same entry, too; `replay` says the least of what an entry breaks"
+    codes "the run above breaks " ++ violation_name v ++ codes " by the same entry, too; `replay` says the least of what an entry breaks"
 
 -- the search was ended at so many states
 abbrev pub cut_words : ℕ → List ℕ
@@ -137,7 +122,7 @@ note_line trees states n = codes "   = journal: " ++ words_of trees states n (sc
 -- a run of a text with one more callback breaks this at an entry
 abbrev pub again_words : Violation → ℕ → List ℕ
 again_words v entry =
-    codes "   = with a callback that sets one, a run breaks V" ++ decimal (violation_number v) ++ codes " at entry " ++ decimal entry
+    codes "   = with a callback that sets one, a run breaks " ++ violation_name v ++ codes " at entry " ++ decimal entry
 
 abbrev pub run_again : BreakingJournal → List ℕ
 run_again b =

@@ -12,6 +12,7 @@ use Rattle.flt_tree.specs.declared.filter.Action.TheVariants as action
 use Rattle.flt_tree.specs.declared.filter.Test.{Test}
 use Rattle.flt_tree.specs.declared.filter.Test.TheVariants as test
 use Rattle.flt_tree.specs.declared.variable.ContextVariable.{ContextVariable}
+use Rattle.flt_graph.specs.Instruction.{roles}
 use Rattle.flt_graph.specs.declared.instruction.Instruction.{Instruction}
 use Rattle.flt_graph.specs.declared.instruction.Instruction.TheVariants as instruction
 use Rattle.flt_graph.specs.declared.instruction.Invocation.{Invocation}
@@ -86,7 +87,7 @@ after_test _ outcome v s = s
 -- what may be so behind an instruction, by its outcome: that a call succeeds, that a test holds
 abbrev pub after : Instruction → Bool → ContextVariable → Possible → Possible
 after (instruction.Act a next) outcome v s = after_action a v s
-after (instruction.Call c granted failed) true v s = after_effects c (row c.call).on_ok v s
-after (instruction.Call c granted failed) false v s = after_call c (row c.call).on_fail v s
+after (instruction.Call c granted failed) true v s = after_effects (roles c) (row (roles c).call).on_ok v s
+after (instruction.Call c granted failed) false v s = after_call (roles c) (row (roles c).call).on_fail v s
 after (instruction.Test t granted failed) outcome v s = after_test t outcome v s
 after _ outcome v s = s

@@ -5,6 +5,7 @@ use Rattle.flt_rules.specs.declared.call.Anchor.{Anchor}
 use Rattle.flt_rules.specs.declared.call.Anchor.TheVariants as anchor
 use Rattle.flt_rules.specs.declared.call.Call.{Call}
 use Rattle.flt_rules.specs.declared.call.Call.TheVariants as call
+use Rattle.flt_graph.specs.Instruction.{roles}
 use Rattle.flt_graph.specs.declared.graph.CallbackGraph.{CallbackGraph}
 use Rattle.flt_graph.specs.declared.graph.Graph.{Graph}
 use Rattle.flt_graph.specs.declared.graph.Point.{Point}
@@ -30,11 +31,11 @@ is_asking a (call.DeleteContextOf own) = same_anchor a own
 is_asking a _ = false
 
 abbrev pub is_set_by : Anchor → Instruction → Bool
-is_set_by a (instruction.Call c granted failed) = is_setting a c.call
+is_set_by a (instruction.Call c granted failed) = is_setting a (roles c).call
 is_set_by a _ = false
 
 abbrev pub is_asked_by : Anchor → Instruction → Bool
-is_asked_by a (instruction.Call c granted failed) = is_asking a c.call
+is_asked_by a (instruction.Call c granted failed) = is_asking a (roles c).call
 is_asked_by a _ = false
 
 abbrev pub is_set_in : Anchor → CallbackGraph → Bool
@@ -71,5 +72,5 @@ is_barren_call u (call.DeleteContextOf anchor.Instance) = u.instance
 is_barren_call u _ = false
 
 abbrev pub is_barren : Unset → Instruction → Bool
-is_barren u (instruction.Call c granted failed) = is_barren_call u c.call
+is_barren u (instruction.Call c granted failed) = is_barren_call u (roles c).call
 is_barren u _ = false

@@ -4,7 +4,7 @@ ghost use Rattle.std.specs.Prelude.{◌≡◌, Some, Contains, IfOk, IfSome, IsT
 ghost use Rattle.flt_explain_runs.specs.Noted as spec;
 ghost use Rattle.flt_explain_runs.specs.Violations.{violations_of as prevented_by};
 
-use crate::lines::{own_trees, violation_number};
+use crate::lines::own_trees;
 use crate::noted::{Note, schedule_of};
 use crate::schedules::Schedule;
 use crate::violations::violations_of;
@@ -36,9 +36,9 @@ fn rule_of(alloc: Global, trees: &[Tree], noted: &Note) -> Result<Option<Violati
 fn is_prevented(finding: &Finding, violation: Violation) -> bool
     ensures { IsTrue result → Contains (prevented_by finding.now.rule) violation }
 {
-    let number = violation_number(violation);
+    let number = violation.number();
     for own in violations_of(finding.rule) {
-        if violation_number(*own) == number {
+        if own.number() == number {
             return true;
         }
     }

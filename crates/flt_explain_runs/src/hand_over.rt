@@ -44,7 +44,7 @@ fn is_handed_by(from: Place, instruction: &Instruction, number: usize, place: Pl
     ensures { result ≡ spec.is_handed_by from instruction.now number place }
 {
     match instruction {
-        Instruction::Call(call, _, _) => is_handed_by_call(call, number, place),
+        Instruction::Call(call, _, _) => is_handed_by_call(&call.roles(), number, place),
         Instruction::Return(status) => is_handed_by_status(from, *status, place),
         _ => false,
     }
@@ -82,7 +82,7 @@ fn is_written_by(instruction: &Instruction) -> bool
     ensures { result ≡ spec.is_written_by instruction.now }
 {
     match instruction {
-        Instruction::Call(call, _, _) => match call.output {
+        Instruction::Call(call, _, _) => match call.roles().output {
             Some(output) => is_argument(output),
             None => false,
         },

@@ -1,6 +1,8 @@
 //! The words on a finding's outcome: the line that has them, and the rows after it.
 
 ghost use Rattle.std.specs.Prelude.{◌≡◌, ◌++◌, Some, IfOk, OnOk, codes, map, string_bytes};
+ghost use Rattle.flt_model.specs.Verdicts.{verdict_line};
+ghost use Rattle.flt_model.specs.declared.verdict.Verdict.TheVariants.{Breaks};
 ghost use Rattle.flt_explain_runs.specs.Lines as spec;
 ghost use Rattle.flt_explain_runs.specs.Noted.{own_of, schedule_of as schedule_in};
 ghost use Rattle.flt_explain_runs.specs.Rows.{AreJournalRows, AreNoteRows, AreRunRows, own_files as own_files_of};
@@ -29,35 +31,6 @@ const IS_STRICTER: &str =
     "   = note: stricter than the driver kit: this rule takes `arg` as possibly held in each callback that has one\n";
 
 // ---- a run
-
-/// The violation of a journal and its entry, as `replay` prints them.
-#[derive(Drop)]
-struct BreakWords(Violation, usize);
-
-pub(crate) fn violation_number(violation: Violation) -> u8
-    ensures { result ≡ spec.violation_number violation }
-{
-    match violation {
-        Violation::V1 => 1,
-        Violation::V2 => 2,
-        Violation::V3 => 3,
-        Violation::V4 => 4,
-        Violation::V5 => 5,
-        Violation::V6 => 6,
-        Violation::V7 => 7,
-        Violation::V8 => 8,
-    }
-}
-
-impl fmt::Display for BreakWords {
-    ghost output = { λ b. Some (spec.break_words b.0 b.1) };
-
-    fn fmt<W: fmt::Write>(&self, f: &mut fmt::Formatter<W>) -> fmt::Result {
-        let number = violation_number(self.0);
-        let entry = self.1;
-        write!(f, "breaks V{number} at {entry}")
-    }
-}
 
 /// Whether an entry is the arrival of an operation.
 fn is_arrival(entry: &JournalEntry) -> bool
@@ -160,9 +133,9 @@ fn put_filters(out: &mut Vec<u8>, trees: &[Tree], own: &[Tree]) -> Result<(), Al
 /// The violation of a run, and how long it is.
 fn broken_words(alloc: Global, broken: &BreakingJournal) -> Result<String, AllocError>
     ensures { IfOk result (λ words. string_bytes words
-        ≡ spec.break_words broken.now.violation broken.now.entry ++ spec.lengths broken.now.journal) }
+        ≡ verdict_line (Breaks broken.now.violation broken.now.entry) ++ spec.lengths broken.now.journal) }
 {
-    let words = BreakWords(broken.violation, broken.entry);
+    let words = Verdict::Breaks(broken.violation, broken.entry);
     let lengths = lengths_of(&broken.journal);
     format!(in alloc; "{words}{lengths}")
 }
@@ -223,10 +196,10 @@ impl fmt::Display for AlsoWords {
     ghost output = { λ a. Some (spec.also_words a.0) };
 
     fn fmt<W: fmt::Write>(&self, f: &mut fmt::Formatter<W>) -> fmt::Result {
-        let number = violation_number(self.0);
+        let name = self.0.name();
         write!(
             f,
-            "the run above breaks V{number} by the same entry, too; `replay` says the least of what an entry breaks"
+            "the run above breaks {name} by the same entry, too; `replay` says the least of what an entry breaks"
         )
     }
 }
@@ -369,11 +342,11 @@ impl fmt::Display for AgainWords {
     ghost output = { λ a. Some (spec.again_words a.0 a.1) };
 
     fn fmt<W: fmt::Write>(&self, f: &mut fmt::Formatter<W>) -> fmt::Result {
-        let number = violation_number(self.0);
+        let name = self.0.name();
         let entry = self.1;
         write!(
             f,
-            "   = with a callback that sets one, a run breaks V{number} at entry {entry}"
+            "   = with a callback that sets one, a run breaks {name} at entry {entry}"
         )
     }
 }

@@ -1,11 +1,11 @@
 //! The possible states of one variable of contexts, and how an instruction changes them.
 
 ghost use Rattle.std.specs.Prelude.{◌≡◌, true, false, Some};
-ghost use Rattle.flt_explain.specs.About.{is_context};
 ghost use Rattle.flt_rules.specs.Table.{row as row_of};
 ghost use Rattle.flt_explain_runs.specs.Possible as spec;
 
 use crate::hand_over::is_argument;
+use flt_explain::is_context;
 use flt_graph::{Action, ContextVariable, Instruction, Invocation, Place, Test};
 use flt_rules::{Change, Effects, row};
 
@@ -15,16 +15,6 @@ pub(crate) struct Possible {
     pub(crate) null: bool,
     pub(crate) held: bool,
     pub(crate) stale: bool,
-}
-
-/// Whether a variable is the one that is named.
-fn is_named(named: Option<ContextVariable>, variable: ContextVariable) -> bool
-    ensures { result ≡ is_context named variable }
-{
-    match named {
-        Some(named) => named.place() == variable.place(),
-        None => false,
-    }
 }
 
 impl Possible {
@@ -126,8 +116,8 @@ impl Possible {
     ) -> Possible
         ensures { result ≡ spec.after_effects call.now effects.now variable self }
     {
-        self.changed_if(is_named(call.context, variable), effects.context)
-            .changed_if(is_named(call.output, variable), effects.output)
+        self.changed_if(is_context(call.context, variable), effects.context)
+            .changed_if(is_context(call.output, variable), effects.output)
     }
 
     fn after_call(self, call: &Invocation, outcome: bool, variable: ContextVariable) -> Possible
@@ -149,7 +139,7 @@ impl Possible {
     {
         match action {
             Action::ClearContext(own) => {
-                self.changed_if(is_named(Some(own), variable), Change::Null)
+                self.changed_if(is_context(Some(own), variable), Change::Null)
             }
             _ => self,
         }
@@ -180,7 +170,7 @@ impl Possible {
         ensures { result ≡ spec.after_test test outcome variable self }
     {
         match test {
-            Test::ContextIsSome(own) => self.where_found(is_named(Some(own), variable), outcome),
+            Test::ContextIsSome(own) => self.where_found(is_context(Some(own), variable), outcome),
             _ => self,
         }
     }
@@ -196,7 +186,7 @@ impl Possible {
     {
         match instruction {
             Instruction::Act(action, _) => self.after_action(*action, variable),
-            Instruction::Call(call, _, _) => self.after_call(call, outcome, variable),
+            Instruction::Call(call, _, _) => self.after_call(&call.roles(), outcome, variable),
             Instruction::Test(test, _, _) => self.after_test(*test, outcome, variable),
             _ => self,
         }

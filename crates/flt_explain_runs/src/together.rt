@@ -154,11 +154,13 @@ impl Printer<'_> {
     ) -> Result<PrintedTexts, ExplainFault>
         requires texts { AreStudied self.now.stage.trees.now 0 each.now }
         requires parsed { AreParsed (texts_read each.now) (filters_of self.now.stage.trees.now) }
-        ensures reports { IfOk result (λ p. spec.AreAllReports self.now.options (filters_of self.now.stage.trees.now) (sources_read each.now)
+        ensures reports { IfOk result
+            (λ p. spec.AreAllReports self.now.options (filters_of self.now.stage.trees.now) (sources_read each.now)
             p.bytes.items p.total.status) }
         ensures notes { IfOk result (λ p. AreNotesIn self.now.stage.trees.now (known_in each.now) (texts_read each.now) p.noted) }
         ensures said { IfOk result (λ p. Say self.now.stage.trees.now self.now.stage.states p.noted p.bytes.items) }
-        ensures print { IfOk result (λ p. IsPrintOfAll (look_of self.now) self.now.stage.trees.now self.now.files.now (sources_read each.now)
+        ensures print { IfOk result
+            (λ p. IsPrintOfAll (look_of self.now) self.now.stage.trees.now self.now.files.now (sources_read each.now)
             p.noted
             p.bytes.items p.total.status) }
         ensures sent { IfOk result

@@ -48,7 +48,7 @@ fn is_set_by(anchor: Anchor, instruction: &Instruction) -> bool
     ensures { result ≡ spec.is_set_by anchor instruction.now }
 {
     match instruction {
-        Instruction::Call(call, _, _) => is_setting(anchor, call.call),
+        Instruction::Call(call, _, _) => is_setting(anchor, call.roles().call),
         _ => false,
     }
 }
@@ -57,7 +57,7 @@ fn is_asked_by(anchor: Anchor, instruction: &Instruction) -> bool
     ensures { result ≡ spec.is_asked_by anchor instruction.now }
 {
     match instruction {
-        Instruction::Call(call, _, _) => is_asking(anchor, call.call),
+        Instruction::Call(call, _, _) => is_asking(anchor, call.roles().call),
         _ => false,
     }
 }
@@ -157,7 +157,7 @@ impl Unset {
         ensures { result ≡ spec.is_barren self instruction.now }
     {
         match instruction {
-            Instruction::Call(call, _, _) => match call.call {
+            Instruction::Call(call, _, _) => match call.roles().call {
                 Call::GetContext(Anchor::Stream) | Call::DeleteContextOf(Anchor::Stream) => {
                     self.stream
                 }

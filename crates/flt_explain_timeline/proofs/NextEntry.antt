@@ -33,7 +33,8 @@ module _ (p : List Filter) (v : Verdict) (number : ℕ) where
   unfolding refused_from
   refused_going old s e es going = rw going refl
 
-  told_made : (ends : Bool) (here : DescribedEntry) (after : Scene) (e : JournalEntry) (es : List JournalEntry) (alive : ℕ) (why : Option Refusal) →
+  told_made : (ends : Bool) (here : DescribedEntry) (after : Scene) (e : JournalEntry)
+      (es : List JournalEntry) (alive : ℕ) (why : Option Refusal) →
       ending_if ends here ∷ next_told p v (record { is_over = ends; alive = here.telling.alive; refusal = why }) (number + 1) after es
       ≡ followed e alive es ends (Goes here after) (λ bits w. told_from p v (number + 1) bits w es)
   told_made true here after e es alive why = refl
@@ -46,7 +47,8 @@ module _ (p : List Filter) (v : Verdict) (number : ℕ) where
   refused_made false here after es alive = refl
 
   -- it was made
-  pub told_goes : (old new : Progress) (s after : Scene) (e : JournalEntry) (es : List JournalEntry) (here : DescribedEntry) → old.is_over ≡ false →
+  pub told_goes : (old new : Progress) (s after : Scene) (e : JournalEntry) (es : List JournalEntry) (here : DescribedEntry) →
+      old.is_over ≡ false →
       entry_of p s e ≡ Goes here after →
       new ≡ record { is_over = ends_at v number; alive = here.telling.alive; refusal = None } →
       ending_if (ends_at v number) here ∷ next_told p v new (number + 1) after es ≡ next_told p v old number s (e ∷ es)
@@ -90,7 +92,8 @@ module _ (p : List Filter) (v : Verdict) (number : ℕ) where
 
 -- what was told by numbers still is
 still : (f g : ℕ → Option Telling) (told : List ℕ) (heres : List DescribedEntry) → ((n : ℕ) (t : Telling) → f n ≡ Some t → g n ≡ Some t) →
-    map f told ≡ map (λ (here : DescribedEntry). Some here.telling) heres → map g told ≡ map (λ (here : DescribedEntry). Some here.telling) heres
+    map f told ≡ map (λ (here : DescribedEntry). Some here.telling) heres →
+    map g told ≡ map (λ (here : DescribedEntry). Some here.telling) heres
 still f g [] [] kept e = refl
 still f g [] (here ∷ heres) kept e = absurd (cc)
 still f g (n ∷ told) [] kept e = absurd (cc)
@@ -100,7 +103,8 @@ still f g (n ∷ told) (here ∷ heres) kept e =
     rw (kept n here.telling first, still f g told heres kept rest) refl
 
 -- one more entry
-pub one_more : (old new : Tellings) (told grown : List ℕ) (whos more : List Who) (number : ℕ) (here : DescribedEntry) (heres : List DescribedEntry) →
+pub one_more : (old new : Tellings) (told grown : List ℕ) (whos more : List Who) (number : ℕ)
+    (here : DescribedEntry) (heres : List DescribedEntry) →
     AreToldBy old told whos heres → ((n : ℕ) (t : Telling) → told_by old n ≡ Some t → told_by new n ≡ Some t) →
     told_by new number ≡ Some here.telling → grown ≡ told ++ number ∷ [] → more ≡ whos ++ here.who ∷ [] →
     AreToldBy new grown more (heres ++ here ∷ [])
@@ -115,7 +119,8 @@ one_more old new told grown whos more number here heres so_far kept is longer wi
 -- ---- all entries
 
 -- what is told of one more entry, and what comes next
-pub told_on : (f g : ℕ → List JournalEntry → List DescribedEntry) (so_far all : List DescribedEntry) (here : DescribedEntry) (es : List JournalEntry)
+pub told_on : (f g : ℕ → List JournalEntry →
+    List DescribedEntry) (so_far all : List DescribedEntry) (here : DescribedEntry) (es : List JournalEntry)
     (number place : ℕ) (d : JournalEntry) →
     place < length es → number ≡ place → ((ws : List JournalEntry) → here ∷ f (number + 1) ws ≡ g number (get_or es place d ∷ ws)) →
     so_far ++ g place (drop place es) ≡ all → (so_far ++ here ∷ []) ++ f (place + 1) (drop (place + 1) es) ≡ all

@@ -3,12 +3,11 @@ use Rattle.std.specs.Prelude.{ℕ, Bool, false, List, [], ◌∷◌, Option, Som
 use Rattle.std.specs.List.{position_or_len}
 use Rattle.flt_rules.specs.declared.place.Place.{Place}
 use Rattle.flt_rules.specs.declared.place.Place.TheVariants as places
+use Rattle.flt_tree.specs.Filter.{span_of}
 use Rattle.flt_tree.specs.declared.filter.Callback.{Callback}
 use Rattle.flt_tree.specs.declared.filter.Filter.{Filter}
 use Rattle.flt_tree.specs.declared.filter.Head.{Head}
-use Rattle.flt_tree.specs.declared.filter.Span.{Span}
 use Rattle.flt_tree.specs.declared.filter.Statement.{Statement, out-Statement}
-use Rattle.flt_tree.specs.declared.filter.Statement.TheOpen.{Statement-F}
 use Rattle.flt_model.specs.Program.{callbacks_at, is_canceled, is_post_of, is_pre_of}
 use Rattle.flt_model.specs.World.{Actor}
 use Rattle.flt_explain_timeline.specs.declared.telling.StartedCallback.{StartedCallback}
@@ -43,14 +42,6 @@ end_of None = 0
 -- the same of a callback that has started
 abbrev pub end_line : List Filter → StartedCallback → ℕ
 end_line p started = end_of (slice_get (callbacks_at p started.filter) started.callback)
-
--- where a statement stands
-abbrev pub span_of : Statement-F Statement → Span
-span_of (Statement-F.Act span x) = span
-span_of (Statement-F.Call span c) = span
-span_of (Statement-F.Return span st) = span
-span_of (Statement-F.If span asked granted refused) = span
-span_of (Statement-F.Repeat span turns block) = span
 
 -- the line of the next step, by the statements that remain: at the end of a body that of the closing brace
 abbrev pub next_line : ℕ → List Statement → ℕ

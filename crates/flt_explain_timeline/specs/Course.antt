@@ -15,7 +15,8 @@ use Rattle.flt_model.specs.Effects.{Step}
 use Rattle.flt_model.specs.LocalSteps.{local_step}
 use Rattle.flt_model.specs.Steps.{Make, Board, local}
 use Rattle.flt_model.specs.Variables.{operation_in}
-use Rattle.flt_model.specs.World.{World, Store, Item, activation_at, actor_at, item_at, opening, visit_at}
+use Rattle.flt_model.specs.declared.parts.Item.{Item}
+use Rattle.flt_model.specs.World.{World, Store, activation_at, actor_at, item_at, opening, visit_at}
 use Rattle.flt_explain_timeline.specs.Callbacks.{end_line, next_line, start_of}
 use Rattle.flt_explain_timeline.specs.Columns.{alive_in, arrived, begun, column_of, gone_on, opened, was_on}
 use Rattle.flt_explain_timeline.specs.Outcomes.{shows, sign_of}

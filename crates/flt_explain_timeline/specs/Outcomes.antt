@@ -5,6 +5,7 @@ use Rattle.flt_tree.specs.declared.filter.Condition.{Condition}
 use Rattle.flt_tree.specs.declared.filter.Condition.TheVariants as condition
 use Rattle.flt_tree.specs.declared.filter.FallibleCall.{FallibleCall}
 use Rattle.flt_tree.specs.declared.filter.FallibleCall.TheVariants as fallible
+use Rattle.flt_tree.specs.declared.filter.Routine.{Routine}
 use Rattle.flt_tree.specs.declared.filter.Statement.{Statement, out-Statement}
 use Rattle.flt_tree.specs.declared.filter.Statement.TheOpen.{Statement-F}
 use Rattle.flt_tree.specs.declared.filter.Test.{Test}
@@ -13,7 +14,8 @@ use Rattle.flt_tree.specs.declared.variable.OperationVariable.TheVariants.{Data,
 use Rattle.flt_model.specs.Calls.{link_of}
 use Rattle.flt_model.specs.Variables.{context_in, operation_in}
 use Rattle.flt_model.specs.Violations.{in_queue, in_item}
-use Rattle.flt_model.specs.World.{World, Store, Link, activation_at, actor_at, arrival_of, context_at, linked_at}
+use Rattle.flt_model.specs.declared.parts.Link.{Link}
+use Rattle.flt_model.specs.World.{World, Store, activation_at, actor_at, arrival_of, context_at, linked_at}
 use Rattle.flt_explain_timeline.specs.declared.outcome.Sign.{Sign}
 use Rattle.flt_explain_timeline.specs.declared.outcome.Sign.TheVariants as signs
 
@@ -54,7 +56,7 @@ module _ (w : World) (a : ℕ) (grant : Bool) where
 
   -- an allocation succeeds where the system grants it; a get and a removal by what their variables name; a set and an insert as above; a
   -- delete where a context is linked there; a work item where there is one more
-  abbrev pub sign_of_call : FallibleCall → Sign
+  abbrev pub sign_of_call : FallibleCall Routine → Sign
   sign_of_call (fallible.AllocateContext d) = signs.Is grant
   sign_of_call (fallible.GetContext on d) = signs.Gives d
   sign_of_call (fallible.SetContext on existing c old) = sign_of_set w.store (context_in (activation_at w a) c)

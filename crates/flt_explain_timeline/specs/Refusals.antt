@@ -7,7 +7,9 @@ use Rattle.flt_model.specs.declared.moves.Move.{Move}
 use Rattle.flt_model.specs.declared.moves.Move.TheVariants as moves
 use Rattle.flt_model.specs.Moves.{fits_mode}
 use Rattle.flt_model.specs.Program.{filter_of}
-use Rattle.flt_model.specs.World.{Store, Position, Down, Visiting, Up, is_detaching, presence_at, route_at}
+use Rattle.flt_model.specs.declared.parts.Position.{Position}
+use Rattle.flt_model.specs.declared.parts.Position.TheVariants.{Down, Visiting, Up}
+use Rattle.flt_model.specs.World.{Store, is_detaching, presence_at, route_at}
 use Rattle.flt_explain_timeline.specs.declared.refusal.Refusal.{Refusal}
 use Rattle.flt_explain_timeline.specs.declared.refusal.Refusal.TheVariants as refusals
 

@@ -7,12 +7,13 @@ use Rattle.std.specs.Fmt.{decimal}
 use Rattle.std.specs.List.{range_with_len}
 use Rattle.flt_tree.specs.Names.{Text}
 use Rattle.flt_tree.specs.declared.filter.Filter.{Filter}
+use Rattle.flt_model.specs.Verdicts.{violation_name}
 use Rattle.flt_model.specs.declared.verdict.Verdict.{Verdict}
 use Rattle.flt_model.specs.declared.verdict.Verdict.TheVariants as verdicts
 use Rattle.flt_explain_timeline.specs.Folds.{folds, part}
 use Rattle.flt_explain_timeline.specs.Reasons.{refusal_words}
 use Rattle.flt_explain_timeline.specs.Tellings.{told_by}
-use Rattle.flt_explain_timeline.specs.Words.{callback_words, happening_words, operation_words, violation_word}
+use Rattle.flt_explain_timeline.specs.Words.{callback_words, happening_words, operation_words}
 use Rattle.flt_explain_timeline.specs.declared.folds.Fold.{Fold}
 use Rattle.flt_explain_timeline.specs.declared.refusal.Refusal.{Refusal}
 use Rattle.flt_explain_timeline.specs.declared.rows.Row.{Row}
@@ -121,7 +122,7 @@ is_break _ entry = false
 
 -- what it breaks
 abbrev pub broken_words : Verdict → Text
-broken_words (verdicts.Breaks violation at) = codes "  <- breaks " ++ violation_word violation
+broken_words (verdicts.Breaks violation at) = codes "  <- breaks " ++ violation_name violation
 broken_words _ = []
 
 -- behind the row of its last entry, what the run breaks, or why that entry isn't enabled

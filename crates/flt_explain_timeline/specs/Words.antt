@@ -21,8 +21,6 @@ use Rattle.flt_model.specs.declared.moves.Key.{Key}
 use Rattle.flt_model.specs.declared.moves.Key.TheVariants.{Stream, Instance}
 use Rattle.flt_model.specs.declared.moves.Move.{Move}
 use Rattle.flt_model.specs.declared.moves.Move.TheVariants as moves
-use Rattle.flt_model.specs.declared.verdict.Violation.{Violation}
-use Rattle.flt_model.specs.declared.verdict.Violation.TheVariants.{V1, V2, V3, V4, V5, V6, V7, V8}
 use Rattle.flt_explain_timeline.specs.declared.telling.Happening.{Happening}
 use Rattle.flt_explain_timeline.specs.declared.telling.Happening.TheVariants as happenings
 use Rattle.flt_explain_timeline.specs.declared.telling.StartedCallback.{StartedCallback}
@@ -178,14 +176,3 @@ happening_words filters files operation (happenings.Runs filter line outcome) =
     line_words (files_of files filter) line ++ outcome_word outcome
 happening_words filters files operation (happenings.IsRefused entry) = entry_words entry
 happening_words filters files operation happenings.IsLeftOut = codes "not judged"
-
--- a violation, as it is printed
-abbrev pub violation_word : Violation → Text
-violation_word V1 = codes "V1"
-violation_word V2 = codes "V2"
-violation_word V3 = codes "V3"
-violation_word V4 = codes "V4"
-violation_word V5 = codes "V5"
-violation_word V6 = codes "V6"
-violation_word V7 = codes "V7"
-violation_word V8 = codes "V8"

@@ -4,33 +4,15 @@ ghost use Rattle.std.specs.Prelude.{◌≡◌, ◌≤◌, List, length, slice_ge
 ghost use Rattle.flt_model.specs.Program as program;
 ghost use Rattle.flt_model.specs.World.{actor_at};
 ghost use Rattle.flt_replay_records.specs.Rest.{statement_of};
-ghost use Rattle.flt_tree.specs.declared.filter.Statement.{Statement as Written, out-Statement};
+ghost use Rattle.flt_tree.specs.declared.filter.Statement.{Statement as Written};
 ghost use Rattle.flt_replay_world.specs.Filters.{filters_behind};
 ghost use Rattle.flt_explain_timeline.specs.Callbacks as spec;
 
 use crate::telling::StartedCallback;
 use flt_replay_records::Upcoming;
 use flt_replay_world::World;
-use flt_rules::{Operation, Place};
-use flt_tree::{Callback, Filter, Head, Statement};
-
-fn is_pre_of(kind: Operation, head: &Head) -> bool
-    ensures { result ≡ program.is_pre_of kind head.now }
-{
-    match head {
-        Head::Pre(own) => own.is_same(kind),
-        _ => false,
-    }
-}
-
-fn is_post_of(kind: Operation, head: &Head) -> bool
-    ensures { result ≡ program.is_post_of kind head.now }
-{
-    match head {
-        Head::Post(own) => own.is_same(kind),
-        _ => false,
-    }
-}
+use flt_rules::Place;
+use flt_tree::{Callback, Filter, Head};
 
 fn is_canceled(head: &Head) -> bool
     ensures { result ≡ program.is_canceled head.now }
@@ -42,8 +24,8 @@ fn is_registered(place: Place, head: &Head) -> bool
     ensures { result ≡ spec.is_registered place head.now }
 {
     match place {
-        Place::Pre(kind) => is_pre_of(kind, head),
-        Place::Post(kind) => is_post_of(kind, head),
+        Place::Pre(kind) => head.is_pre_of(kind),
+        Place::Post(kind) => head.is_post_of(kind),
         Place::Canceled => is_canceled(head),
         Place::DeferredPre | Place::DeferredPost | Place::Generic => false,
     }
@@ -116,25 +98,13 @@ pub(crate) fn end_line(filters: &[&Filter], started: StartedCallback) -> usize
     }
 }
 
-fn line_of(statement: &Statement) -> usize
-    ensures { result ≡ (spec.span_of (out-Statement statement.now)).line }
-{
-    match statement {
-        Statement::Act(span, _)
-        | Statement::Call(span, _)
-        | Statement::Return(span, _)
-        | Statement::If(span, _, _, _)
-        | Statement::Repeat(span, _, _) => span.line,
-    }
-}
-
 /// The line of the next step: at the end of a body that of its closing brace.
 pub(crate) fn next_line(next: Option<Upcoming<'_>>, end: usize) -> usize
     ensures { (statements rest : List Written) → MatchOption next.entry (statements ≡ []) (λ u. statements ≡ statement_of u ∷ rest) →
         result ≡ spec.next_line end statements }
 {
     match next {
-        Some(Upcoming::Statement(statement)) => line_of(statement),
+        Some(Upcoming::Statement(statement)) => statement.span().line,
         Some(Upcoming::Repeat(span, _, _)) => span.line,
         None => end,
     }

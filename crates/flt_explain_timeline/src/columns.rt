@@ -7,7 +7,7 @@ ghost use Rattle.flt_model.specs.World as machine;
 ghost use Rattle.flt_explain_timeline.specs.Columns as spec;
 
 use crate::telling::Column;
-use flt_replay_records::Position;
+use flt_model::Position;
 use flt_replay_world::World;
 
 /// How many columns there are.

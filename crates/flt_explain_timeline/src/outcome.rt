@@ -9,12 +9,13 @@ ghost use Rattle.flt_tree.specs.declared.filter.Statement.{Statement as Written,
 ghost use Rattle.flt_tree.specs.declared.variable.OperationVariable.TheVariants.{Data};
 ghost use Rattle.flt_explain_timeline.specs.Outcomes as spec;
 
-use flt_model::Key;
-use flt_replay_records::{Link, Upcoming};
+use flt_model::{Key, Link};
+use flt_replay_records::Upcoming;
 use flt_replay_world::World;
 use flt_rules::Anchor;
 use flt_tree::{
-    Condition, ContextVariable, FallibleCall, OperationVariable, RemovedVariable, Statement, Test,
+    Condition, ContextVariable, FallibleCall, OperationVariable, RemovedVariable, Routine,
+    Statement, Test,
 };
 
 /// How the outcome shows, once the step is made.
@@ -84,7 +85,12 @@ fn sign_of_insert(world: &World<'_>, activation: usize) -> Sign
     }
 }
 
-fn sign_of_call(world: &World<'_>, activation: usize, grant: bool, call: &FallibleCall) -> Sign
+fn sign_of_call(
+    world: &World<'_>,
+    activation: usize,
+    grant: bool,
+    call: &FallibleCall<Routine>,
+) -> Sign
     ensures { result ≡ spec.sign_of_call world.now activation grant call.now }
 {
     match call {

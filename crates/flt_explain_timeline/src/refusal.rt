@@ -7,9 +7,9 @@ ghost use Rattle.flt_replay_records.specs.Rest.{statement_of};
 ghost use Rattle.flt_tree.specs.declared.filter.Statement.{Statement as Written};
 ghost use Rattle.flt_explain_timeline.specs.Refusals as reasons;
 
-use flt_model::{Move, fits_mode};
+use flt_model::{Move, Position, fits_mode};
 use flt_replay_course::is_local;
-use flt_replay_records::{Position, Upcoming};
+use flt_replay_records::Upcoming;
 use flt_replay_world::{Stack, World};
 use flt_rules::{Mode, Operation};
 

@@ -4,10 +4,11 @@ ghost use Rattle.std.specs.Prelude.{◌≡◌, ◌+◌, ◌-◌, ◌/◌, ◌++�
 ghost use Rattle.std.specs.Prelude.{option_copied, replicate, slice_get, string_bytes, take, IfOk};
 ghost use Rattle.std.specs.Fmt.{decimal};
 ghost use Rattle.std.specs.List.{range_with_len};
+ghost use Rattle.flt_model.specs.Verdicts.{violation_name};
 ghost use Rattle.flt_explain_timeline.specs.Folds.{part as told_in};
 ghost use Rattle.flt_explain_timeline.specs.Reasons.{refusal_words};
 ghost use Rattle.flt_explain_timeline.specs.Text as spec;
-ghost use Rattle.flt_explain_timeline.specs.Words.{Puts, files_of as files_by_filter, line_words, violation_word as violation_code};
+ghost use Rattle.flt_explain_timeline.specs.Words.{Puts, files_of as files_by_filter, line_words};
 
 use crate::columns::COLUMNS;
 use crate::folds::{Fold, folds_of, from, part, stretch};
@@ -15,9 +16,7 @@ use crate::refusal::Refusal;
 use crate::rows::Row;
 use crate::telling::{Column, Happening, StartedCallback, Telling, Who};
 use crate::timeline::Timeline;
-use crate::words::{
-    files_of, put_callback, put_happening, put_line, put_one, put_operation, violation_word,
-};
+use crate::words::{files_of, put_callback, put_happening, put_line, put_one, put_operation};
 use flt_model::{Verdict, Violation};
 use flt_tree::Filter;
 use sqlite_items::Items;
@@ -230,9 +229,9 @@ fn put_refusal(out: &mut String, refusal: Refusal) -> Result<(), AllocError>
 }
 
 fn put_violation(out: &mut String, violation: Violation) -> Result<(), AllocError>
-    ensures { Puts result (string_bytes out.old) (string_bytes out.new) (violation_code violation) }
+    ensures { Puts result (string_bytes out.old) (string_bytes out.new) (violation_name violation) }
 {
-    out.push_str(violation_word(violation))
+    out.push_str(violation.name())
 }
 
 /// The violation by the run, if it breaks something.
@@ -246,7 +245,7 @@ fn put_broken(out: &mut String, verdict: Verdict) -> Result<(), AllocError>
 }
 
 fn put_break(out: &mut String, violation: Violation) -> Result<(), AllocError>
-    ensures { Puts result (string_bytes out.old) (string_bytes out.new) (codes "  <- breaks " ++ violation_code violation) }
+    ensures { Puts result (string_bytes out.old) (string_bytes out.new) (codes "  <- breaks " ++ violation_name violation) }
 {
     out.push_str("  <- breaks ")?;
     put_violation(out, violation)

@@ -5,7 +5,7 @@ ghost use Rattle.std.specs.Fmt.{decimal};
 ghost use Rattle.flt_explain_timeline.specs.Words as spec;
 
 use crate::telling::{Happening, StartedCallback};
-use flt_model::{JournalEntry, Key, Move, Violation};
+use flt_model::{JournalEntry, Key, Move};
 use flt_places::Files;
 use flt_rules::{Mode, Operation};
 use flt_tree::{Filter, Head};
@@ -30,21 +30,6 @@ fn mode_word(mode: Mode) -> &'static str
     match mode {
         Mode::Irp => " irp ",
         Mode::Fast => " fast ",
-    }
-}
-
-pub(crate) fn violation_word(violation: Violation) -> &'static str
-    ensures { result.now ≡ spec.violation_word violation }
-{
-    match violation {
-        Violation::V1 => "V1",
-        Violation::V2 => "V2",
-        Violation::V3 => "V3",
-        Violation::V4 => "V4",
-        Violation::V5 => "V5",
-        Violation::V6 => "V6",
-        Violation::V7 => "V7",
-        Violation::V8 => "V8",
     }
 }
 

@@ -19,15 +19,18 @@ pub settled_too : (w v u : World) (a : ℕ) → AreSettled w a v → IsSettled v
 settled_too w v u a are settled = rw add-one (v, are, settled)
 
 -- one activation more that is looked at
-pub waits_too : (w : World) (a : ℕ) (earlier waits : List BlockedActivation) → earlier ≡ waits_at w a → waits ≡ earlier ++ listed (wait_of w a) →
+pub waits_too : (w : World) (a : ℕ) (earlier waits : List BlockedActivation) →
+    earlier ≡ waits_at w a → waits ≡ earlier ++ listed (wait_of w a) →
     waits ≡ waits_at w (a + 1)
 waits_too w a earlier waits before is = rw (add-one, ← before) is
 
 -- what is found goes behind the others
-pub listed_some : (found wait : Option BlockedActivation) (some : BlockedActivation) (old new : List BlockedActivation) → found ≡ wait → found ≡ Some some →
+pub listed_some : (found wait : Option BlockedActivation) (some : BlockedActivation) (old new : List BlockedActivation) →
+    found ≡ wait → found ≡ Some some →
     new ≡ old ++ some ∷ [] → new ≡ old ++ listed wait
 listed_some found wait some old new is there grown = let same : wait ≡ Some some = sym is ∙ there in rw same grown
 
 -- where nothing is, nothing goes there
-pub listed_none : (found wait : Option BlockedActivation) (old : List BlockedActivation) → found ≡ wait → found ≡ None → old ≡ old ++ listed wait
+pub listed_none : (found wait : Option BlockedActivation) (old : List BlockedActivation) →
+    found ≡ wait → found ≡ None → old ≡ old ++ listed wait
 listed_none found wait old is none = let same : wait ≡ None = sym is ∙ none in rw same (sym (append-nil old))

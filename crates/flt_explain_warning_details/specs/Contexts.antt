@@ -4,6 +4,7 @@ use Rattle.std.specs.List.{concat}
 use Rattle.flt_tree.specs.Names.{Text}
 use Rattle.flt_tree.specs.declared.filter.Action.TheVariants.{ReadValue, WriteValue}
 use Rattle.flt_tree.specs.declared.variable.ContextVariable.{ContextVariable}
+use Rattle.flt_graph.specs.Instruction.{roles}
 use Rattle.flt_graph.specs.declared.instruction.Instruction.{Instruction}
 use Rattle.flt_graph.specs.declared.instruction.Instruction.TheVariants.{Act, Call}
 use Rattle.flt_explain.specs.declared.finding.Subject.{Subject}
@@ -21,12 +22,12 @@ use Rattle.flt_explain_warning_details.specs.declared.detail.RelatedPlace.{Relat
 abbrev pub worked_on : Instruction → Option ContextVariable
 worked_on (Act (ReadValue n c) next) = Some c
 worked_on (Act (WriteValue c a) next) = Some c
-worked_on (Call c granted refused) = c.context
+worked_on (Call c granted refused) = (roles c).context
 worked_on _ = None
 
 -- the variable in which a call gives the context that it found
 abbrev pub found_in : Instruction → Option ContextVariable
-found_in (Call c granted refused) = c.output
+found_in (Call c granted refused) = (roles c).output
 found_in _ = None
 
 -- what is named where an instruction works on a context

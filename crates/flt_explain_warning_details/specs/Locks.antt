@@ -3,6 +3,7 @@ use Rattle.std.specs.Prelude.{List, [], ◌∷◌, codes, map}
 use Rattle.std.specs.List.{concat}
 use Rattle.flt_rules.specs.declared.call.LockNumber.{LockNumber}
 use Rattle.flt_tree.specs.Names.{Text}
+use Rattle.flt_graph.specs.Instruction.{roles}
 use Rattle.flt_graph.specs.declared.instruction.Instruction.{Instruction}
 use Rattle.flt_graph.specs.declared.instruction.Instruction.TheVariants.{Call}
 use Rattle.flt_order.specs.declared.order.Acquisition.{Acquisition}
@@ -73,7 +74,7 @@ circle_places x (a ∷ rest) = map (acquisition_place x) rest
 
 -- the name of the call of an instruction
 abbrev pub called : Instruction → Text
-called (Call c granted refused) = call_name c.call
+called (Call c granted refused) = call_name (roles c).call
 called _ = codes "this call"
 
 -- that a call is made while a lock is held

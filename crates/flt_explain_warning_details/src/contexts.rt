@@ -23,7 +23,7 @@ pub(crate) fn worked_on(instruction: &Instruction) -> Option<ContextVariable>
     match instruction {
         Instruction::Act(Action::ReadValue(_, context), _) => Some(*context),
         Instruction::Act(Action::WriteValue(context, _), _) => Some(*context),
-        Instruction::Call(call, _, _) => call.context,
+        Instruction::Call(call, _, _) => call.roles().context,
         _ => None,
     }
 }
@@ -33,7 +33,7 @@ fn found_in(instruction: &Instruction) -> Option<ContextVariable>
     ensures { result ≡ spec.found_in instruction.now }
 {
     match instruction {
-        Instruction::Call(call, _, _) => call.output,
+        Instruction::Call(call, _, _) => call.roles().output,
         _ => None,
     }
 }

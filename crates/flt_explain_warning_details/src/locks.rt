@@ -194,7 +194,7 @@ pub(crate) fn called(instruction: &Instruction) -> &'static str
     ensures { result.now ≡ spec.called instruction.now }
 {
     match instruction {
-        Instruction::Call(call, _, _) => call_name(call.call),
+        Instruction::Call(call, _, _) => call_name(call.roles().call),
         _ => "this call",
     }
 }

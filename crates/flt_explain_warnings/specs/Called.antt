@@ -6,6 +6,7 @@ use Rattle.flt_rules.specs.declared.call.Call.TheVariants as call
 use Rattle.flt_rules.specs.declared.call.LockNumber.{LockNumber}
 use Rattle.flt_rules.specs.declared.held.HeldLock.{HeldLock}
 use Rattle.flt_graph.specs.Graph.{instruction_at}
+use Rattle.flt_graph.specs.Instruction.{roles}
 use Rattle.flt_graph.specs.declared.graph.Graph.{Graph}
 use Rattle.flt_graph.specs.declared.instruction.Instruction.{Instruction}
 use Rattle.flt_graph.specs.declared.instruction.Instruction.TheVariants as instruction
@@ -31,7 +32,7 @@ latest (h ∷ k ∷ locks) = latest (k ∷ locks)
 
 -- the lock that was taken last of those that such a call is made under
 abbrev pub locked_in : Instruction → List HeldLock → Option LockNumber
-locked_in (instruction.Call c granted refused) locks = if gives_away c.call then latest locks else None
+locked_in (instruction.Call c granted refused) locks = if gives_away (roles c).call then latest locks else None
 locked_in _ locks = None
 
 -- the same in a state, if the point is reached

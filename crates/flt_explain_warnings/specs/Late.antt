@@ -8,6 +8,7 @@ use Rattle.flt_rules.specs.declared.call.Call.TheVariants as call
 use Rattle.flt_rules.specs.declared.place.Place.{Place}
 use Rattle.flt_rules.specs.declared.place.Place.TheVariants as place
 use Rattle.flt_graph.specs.Graph.{instruction_at, place_at}
+use Rattle.flt_graph.specs.Instruction.{roles}
 use Rattle.flt_graph.specs.declared.graph.Graph.{Graph}
 use Rattle.flt_graph.specs.declared.instruction.Instruction.{Instruction}
 use Rattle.flt_graph.specs.declared.instruction.Instruction.TheVariants as instruction
@@ -37,7 +38,7 @@ needs_instance _ = false
 
 -- the same of an instruction
 abbrev pub asks_instance : Instruction → Bool
-asks_instance (instruction.Call c granted refused) = needs_instance c.call
+asks_instance (instruction.Call c granted refused) = needs_instance (roles c).call
 asks_instance _ = false
 
 -- some operation is surely held

@@ -7,6 +7,7 @@ use Rattle.flt_rules.specs.declared.call.Call.TheVariants as call
 use Rattle.flt_rules.specs.declared.call.Existing.TheVariants.{Keep}
 use Rattle.flt_tree.specs.declared.variable.ContextVariable.{ContextVariable}
 use Rattle.flt_graph.specs.Graph.{instruction_at}
+use Rattle.flt_graph.specs.Instruction.{roles}
 use Rattle.flt_graph.specs.declared.graph.Graph.{Graph}
 use Rattle.flt_graph.specs.declared.instruction.Instruction.{Instruction}
 use Rattle.flt_graph.specs.declared.instruction.Instruction.TheVariants as instruction
@@ -35,7 +36,7 @@ loss_by c refused = if keeps c.call then option_map (loss_of refused c.output) c
 
 -- the same of an instruction
 abbrev pub loss_in : Instruction → Option Loss
-loss_in (instruction.Call c granted refused) = loss_by c refused
+loss_in (instruction.Call c granted refused) = loss_by (roles c) refused
 loss_in _ = None
 
 -- the same of a point that is reached

@@ -4,6 +4,7 @@ use Rattle.std.specs.Prelude.{ℕ, Bool, true, false, not, ◌&&◌, if◌then�
 use Rattle.flt_rules.specs.declared.call.Call.{Call}
 use Rattle.flt_rules.specs.declared.call.Call.TheVariants as call
 use Rattle.flt_graph.specs.Graph.{instruction_at}
+use Rattle.flt_graph.specs.Instruction.{roles}
 use Rattle.flt_graph.specs.declared.graph.Graph.{Graph}
 use Rattle.flt_graph.specs.declared.instruction.Instruction.{Instruction}
 use Rattle.flt_graph.specs.declared.instruction.Instruction.TheVariants as instruction
@@ -22,7 +23,7 @@ is_insert _ = false
 
 -- the point behind an insert that succeeds
 abbrev pub inserted : Instruction → Option ℕ
-inserted (instruction.Call c granted refused) = if is_insert c.call then Some granted else None
+inserted (instruction.Call c granted refused) = if is_insert (roles c).call then Some granted else None
 inserted _ = None
 
 -- the same of a point that is reached

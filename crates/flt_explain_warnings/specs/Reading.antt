@@ -5,6 +5,7 @@ use Rattle.flt_rules.specs.declared.call.Call.{Call}
 use Rattle.flt_rules.specs.declared.call.Call.TheVariants as call
 use Rattle.flt_rules.specs.declared.place.Place.{Place}
 use Rattle.flt_rules.specs.declared.place.Place.TheVariants as place
+use Rattle.flt_graph.specs.Instruction.{roles}
 use Rattle.flt_graph.specs.declared.graph.CallbackGraph.{CallbackGraph}
 use Rattle.flt_graph.specs.declared.graph.Graph.{Graph}
 use Rattle.flt_graph.specs.declared.graph.Point.{Point}
@@ -32,7 +33,7 @@ is_removal _ = false
 
 -- the instruction takes an operation out of the queue
 abbrev pub removes : Instruction → Bool
-removes (instruction.Call c granted refused) = is_removal c.call
+removes (instruction.Call c granted refused) = is_removal (roles c).call
 removes _ = false
 
 -- the same of a point

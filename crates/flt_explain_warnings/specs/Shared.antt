@@ -13,6 +13,7 @@ use Rattle.flt_tree.specs.declared.filter.Action.TheVariants as action
 use Rattle.flt_tree.specs.declared.variable.ContextVariable.{ContextVariable}
 use Rattle.flt_tree.specs.declared.variable.ContextVariable.TheVariants.{C0, C1, C2, C3, C4, C5, C6, C7, Arg}
 use Rattle.flt_graph.specs.Graph.{points_at, instruction_at}
+use Rattle.flt_graph.specs.Instruction.{roles}
 use Rattle.flt_graph.specs.Points.{successor}
 use Rattle.flt_graph.specs.declared.graph.Graph.{Graph}
 use Rattle.flt_graph.specs.declared.instruction.Instruction.{Instruction}
@@ -58,7 +59,7 @@ shares_by s c outcome =
 
 -- the same of an instruction
 abbrev pub shares : Sharing → Instruction → Bool → Bool
-shares s (instruction.Call c granted refused) outcome = shares_by s c outcome
+shares s (instruction.Call c granted refused) outcome = shares_by s (roles c) outcome
 shares s _ outcome = false
 
 -- the point from which on that is so
@@ -110,7 +111,7 @@ handing is_handed = if is_handed then Some HandOver else None
 -- what an instruction does with the variable's context
 abbrev pub usage_in : Instruction → ContextVariable → Option Usage
 usage_in (instruction.Act a next) v = usage_by a v
-usage_in (instruction.Call c granted refused) v = handing (hands_on c.call && is_named c.context v)
+usage_in (instruction.Call c granted refused) v = handing (hands_on (roles c).call && is_named (roles c).context v)
 usage_in (instruction.Return st) v = handing (status_uses st v)
 usage_in _ v = None
 

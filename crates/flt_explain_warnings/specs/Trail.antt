@@ -11,6 +11,7 @@ use Rattle.flt_tree.specs.declared.filter.Status.TheVariants as status
 use Rattle.flt_tree.specs.declared.filter.Test.TheVariants as test
 use Rattle.flt_tree.specs.declared.variable.ContextVariable.{ContextVariable}
 use Rattle.flt_graph.specs.Graph.{callback_at}
+use Rattle.flt_graph.specs.Instruction.{roles}
 use Rattle.flt_graph.specs.Points.{successor}
 use Rattle.flt_graph.specs.declared.graph.Graph.{Graph}
 use Rattle.flt_graph.specs.declared.instruction.Instruction.{Instruction}
@@ -34,7 +35,7 @@ routine_removes g None = false
 
 -- the instruction queues a work item whose routine takes operations out of the queue, or tries to
 abbrev pub queues_removal : Graph → Instruction → Bool
-queues_removal g (instruction.Call c granted refused) = routine_removes g c.routine
+queues_removal g (instruction.Call c granted refused) = routine_removes g (roles c).routine
 queues_removal g _ = false
 
 -- the status is PENDING
@@ -66,7 +67,7 @@ settles_by c v = is_named c.output v || ((is_set c.call || is_release c.call) &&
 -- from this instruction on the variable's context isn't the one any more that wasn't set, or nothing is known of it
 abbrev pub settles : Instruction → ContextVariable → Bool
 settles (instruction.Act (action.ClearContext c) next) v = is_named (Some c) v
-settles (instruction.Call c granted refused) v = settles_by c v
+settles (instruction.Call c granted refused) v = settles_by (roles c) v
 settles _ v = false
 
 -- by this outcome a test finds that the variable is NULL
@@ -95,7 +96,7 @@ status_uses st v = is_named (named_context st) v
 -- the instruction reads or writes the value of the variable's context, or hands the context on
 abbrev pub uses : Instruction → ContextVariable → Bool
 uses (instruction.Act a next) v = action_uses a v
-uses (instruction.Call c granted refused) v = hands_on c.call && is_named c.context v
+uses (instruction.Call c granted refused) v = hands_on (roles c).call && is_named (roles c).context v
 uses (instruction.Return st) v = status_uses st v
 uses _ v = false
 
@@ -104,7 +105,7 @@ uses _ v = false
 -- the instruction gives the variable another context, or none
 abbrev pub renews : Instruction → ContextVariable → Bool
 renews (instruction.Act (action.ClearContext c) next) v = is_named (Some c) v
-renews (instruction.Call c granted refused) v = is_named c.output v
+renews (instruction.Call c granted refused) v = is_named (roles c).output v
 renews _ v = false
 
 -- ---- all

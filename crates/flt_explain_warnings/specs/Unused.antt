@@ -6,6 +6,7 @@ use Rattle.flt_rules.specs.Call.{place_of}
 use Rattle.flt_rules.specs.Held.{same_lock}
 use Rattle.flt_rules.specs.declared.call.LockNumber.{LockNumber}
 use Rattle.flt_rules.specs.declared.call.LockNumber.TheVariants.{L0, L1, L2, L3, L4, L5, L6, L7}
+use Rattle.flt_graph.specs.Instruction.{roles}
 use Rattle.flt_graph.specs.declared.graph.CallbackGraph.{CallbackGraph}
 use Rattle.flt_graph.specs.declared.graph.Graph.{Graph}
 use Rattle.flt_graph.specs.declared.graph.Point.{Point}
@@ -25,7 +26,7 @@ is_lock None l = false
 
 -- an instruction calls with the lock
 abbrev pub names_lock : LockNumber → Instruction → Bool
-names_lock l (instruction.Call c granted refused) = is_lock c.lock l
+names_lock l (instruction.Call c granted refused) = is_lock (roles c).lock l
 names_lock l _ = false
 
 -- some instruction of the callback does

@@ -35,7 +35,7 @@ fn locked_in(instruction: &Instruction, locks: &[HeldLock]) -> Option<LockNumber
 {
     match instruction {
         Instruction::Call(call, _, _) => {
-            if gives_away(call.call) {
+            if gives_away(call.roles().call) {
                 latest(locks)
             } else {
                 None

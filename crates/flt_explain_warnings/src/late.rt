@@ -39,7 +39,7 @@ fn asks_instance(instruction: &Instruction) -> bool
     ensures { result ≡ spec.asks_instance instruction.now }
 {
     match instruction {
-        Instruction::Call(call, _, _) => needs_instance(call.call),
+        Instruction::Call(call, _, _) => needs_instance(call.roles().call),
         _ => false,
     }
 }

@@ -45,7 +45,7 @@ fn loss_in(instruction: &Instruction) -> Option<Loss>
     ensures { result ≡ spec.loss_in instruction.now }
 {
     match instruction {
-        Instruction::Call(call, _, refused) => loss_by(call, *refused),
+        Instruction::Call(call, _, refused) => loss_by(&call.roles(), *refused),
         _ => None,
     }
 }

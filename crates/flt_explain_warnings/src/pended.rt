@@ -17,7 +17,7 @@ fn inserted(instruction: &Instruction) -> Option<usize>
 {
     match instruction {
         Instruction::Call(call, granted, _) => {
-            if matches!(call.call, Call::InsertIo) {
+            if matches!(call.roles().call, Call::InsertIo) {
                 Some(*granted)
             } else {
                 None

@@ -42,7 +42,7 @@ fn removes(instruction: &Instruction) -> bool
     ensures { result ≡ spec.removes instruction.now }
 {
     match instruction {
-        Instruction::Call(call, _, _) => matches!(call.call, Call::RemoveNextIo),
+        Instruction::Call(call, _, _) => matches!(call.roles().call, Call::RemoveNextIo),
         _ => false,
     }
 }

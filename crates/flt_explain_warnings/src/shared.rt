@@ -107,7 +107,7 @@ fn shares(sharing: Sharing, instruction: &Instruction, outcome: bool) -> bool
     ensures { result ≡ spec.shares sharing instruction.now outcome }
 {
     match instruction {
-        Instruction::Call(call, _, _) => shares_by(sharing, call, outcome),
+        Instruction::Call(call, _, _) => shares_by(sharing, &call.roles(), outcome),
         _ => false,
     }
 }
@@ -205,6 +205,7 @@ fn usage_in(instruction: &Instruction, variable: ContextVariable) -> Option<Usag
     match instruction {
         Instruction::Act(action, _) => usage_by(*action, variable),
         Instruction::Call(call, _, _) => {
+            let call = call.roles();
             handing(hands_on(call.call) && is_named(call.context, variable))
         }
         Instruction::Return(status) => handing(status_uses(*status, variable)),

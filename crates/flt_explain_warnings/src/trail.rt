@@ -64,7 +64,7 @@ fn queues_removal(graph: &Graph, instruction: &Instruction) -> bool
     ensures { result ≡ spec.queues_removal graph.now instruction.now }
 {
     match instruction {
-        Instruction::Call(call, _, _) => routine_removes(graph, call.routine),
+        Instruction::Call(call, _, _) => routine_removes(graph, call.roles().routine),
         _ => false,
     }
 }
@@ -104,7 +104,7 @@ fn settles(instruction: &Instruction, variable: ContextVariable) -> bool
 {
     match instruction {
         Instruction::Act(Action::ClearContext(cleared), _) => is_named(Some(*cleared), variable),
-        Instruction::Call(call, _, _) => settles_by(call, variable),
+        Instruction::Call(call, _, _) => settles_by(&call.roles(), variable),
         _ => false,
     }
 }
@@ -156,7 +156,10 @@ fn uses(instruction: &Instruction, variable: ContextVariable) -> bool
 {
     match instruction {
         Instruction::Act(action, _) => action_uses(*action, variable),
-        Instruction::Call(call, _, _) => { hands_on(call.call) && is_named(call.context, variable) }
+        Instruction::Call(call, _, _) => {
+            let call = call.roles();
+            hands_on(call.call) && is_named(call.context, variable)
+        }
         Instruction::Return(status) => status_uses(*status, variable),
         _ => false,
     }
@@ -170,7 +173,7 @@ fn renews(instruction: &Instruction, variable: ContextVariable) -> bool
 {
     match instruction {
         Instruction::Act(Action::ClearContext(cleared), _) => is_named(Some(*cleared), variable),
-        Instruction::Call(call, _, _) => is_named(call.output, variable),
+        Instruction::Call(call, _, _) => is_named(call.roles().output, variable),
         _ => false,
     }
 }

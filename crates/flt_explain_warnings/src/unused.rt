@@ -37,7 +37,7 @@ fn names_lock(instruction: &Instruction, lock: LockNumber) -> bool
     ensures { result ≡ spec.names_lock lock instruction.now }
 {
     match instruction {
-        Instruction::Call(call, _, _) => is_lock(call.lock, lock),
+        Instruction::Call(call, _, _) => is_lock(call.roles().lock, lock),
         _ => false,
     }
 }

@@ -1,11 +1,11 @@
 -- A callback with a way to what is found, and one without: the definitions, tried.
-use Rattle.std.proofs.Common.{◌≡◌, true, false, List, [], ◌∷◌, Some, None, refl}
-use Rattle.flt_rules.specs.declared.call.Call.TheVariants.{AllocateContext}
+use Rattle.std.proofs.Common.{◌≡◌, true, false, List, [], ◌∷◌, Some, refl}
 use Rattle.flt_rules.specs.declared.place.Mode.TheVariants.{Irp}
 use Rattle.flt_rules.specs.declared.place.Place.TheVariants.{Generic}
 use Rattle.flt_rules.specs.declared.rule.Rule.TheVariants.{R01, R02}
 use Rattle.flt_tree.specs.Filter.{no_span}
 use Rattle.flt_tree.specs.declared.filter.Action.TheVariants.{ReadValue}
+use Rattle.flt_tree.specs.declared.filter.FallibleCall.TheVariants.{AllocateContext}
 use Rattle.flt_tree.specs.declared.filter.Test.TheVariants.{ContextIsSome}
 use Rattle.flt_tree.specs.declared.variable.ContextVariable.TheVariants.{C0}
 use Rattle.flt_tree.specs.declared.variable.NumberVariable.TheVariants.{N0}
@@ -13,6 +13,7 @@ use Rattle.flt_graph.specs.declared.graph.Graph.{Graph}
 use Rattle.flt_graph.specs.declared.graph.Point.{Point}
 use Rattle.flt_graph.specs.declared.instruction.Instruction.{Instruction}
 use Rattle.flt_graph.specs.declared.instruction.Instruction.TheVariants as instruction
+use Rattle.flt_graph.specs.declared.instruction.ResolvedCall.TheVariants as resolved
 use Rattle.flt_abs.specs.Entry.{entry}
 use Rattle.flt_abs.specs.State.{Status, Null, Held, Situation}
 use Rattle.flt_explain.specs.declared.finding.Finding.{Finding}
@@ -32,15 +33,7 @@ graph points = record { locks = []; callbacks = record { place = Generic; points
 
 abbrev pub leaking : Graph
 leaking = graph
-    (point (instruction.Call (record {
-      call = AllocateContext;
-      context = None;
-      output = Some C0;
-      operation = None;
-      status = None;
-      lock = None;
-      routine = None;
-    }) 1 1) ∷ point instruction.End ∷ [])
+    (point (instruction.Call (resolved.Fallible (AllocateContext C0)) 1 1) ∷ point instruction.End ∷ [])
 
 abbrev pub leak : Finding
 leak = record { callback = 0; point = 1; line = 1; rule = R02; subject = about.Context C0 }

@@ -168,7 +168,8 @@ module _ (g : Graph) (k : ℕ) (f : Fact) where
               )
 
   -- a step comes from a point that is reached before
-  pub arrival_before : (found : List ReachedPoint) (n m : ℕ) (r : ReachedPoint) (s : Step) → AreArrivals g k f found → slice_get found n ≡ Some r →
+  pub arrival_before : (found : List ReachedPoint) (n m : ℕ) (r : ReachedPoint) (s : Step) →
+      AreArrivals g k f found → slice_get found n ≡ Some r →
       r.arrival ≡ Some (m, s) → m < n
   arrival_before found n m r s all there is = by (subst (λ a. IsArrival g k f found n r a) is (all n r there)) where
     by : IsStepTo g k f found n r m s → m < n

@@ -64,7 +64,8 @@ module _ (turns : List TracedFinding) (y x : TracedFinding) (ys : List TracedFin
       ∙ ap (λ gs. group y (filter (is_like y) ys) ∷ gs) rest ∙ sym (goes_in false e)
 
 -- the groups of findings with one more are those without it, to which it is added
-pub more : (turns xs : List TracedFinding) (x : TracedFinding) → length xs < length turns → groups_in turns (xs ++ x ∷ []) ≡ added x (groups_in turns xs)
+pub more : (turns xs : List TracedFinding) (x : TracedFinding) → length xs < length turns →
+    groups_in turns (xs ++ x ∷ []) ≡ added x (groups_in turns xs)
 more [] xs x h = absurd (omega (arith, h))
 more (turn ∷ turns) [] x h = ap (λ gs. group x [] ∷ gs) (none_left turns)
 more (turn ∷ turns) (y ∷ ys) x h =
@@ -261,7 +262,8 @@ of_none q None e = refl
 of_none q (Some k) e = absurd (none-some k (sym e))
 
 -- they stay where a finding begins a group whose origin isn't known
-pub stay_behind : (q : Common) (x : TracedFinding) (gs : List Group) → common_of x ≡ None → place_in q (gs ++ group x [] ∷ []) ≡ place_in q gs
+pub stay_behind : (q : Common) (x : TracedFinding) (gs : List Group) → common_of x ≡ None →
+    place_in q (gs ++ group x [] ∷ []) ≡ place_in q gs
 stay_behind q x gs e =
     behind q x gs ∙ ap (λ b. or_last (place_in q gs) b (length gs)) (of_none q (common_of x) e) ∙ no_last (place_in q gs) (length gs)
 

@@ -30,6 +30,7 @@ use Rattle.flt_tree.specs.declared.variable.ContextVariable.{ContextVariable}
 use Rattle.flt_tree.specs.declared.variable.OperationVariable.{OperationVariable}
 use Rattle.flt_tree.specs.declared.variable.OperationVariable.TheVariants.{Removed, Data}
 use Rattle.flt_graph.specs.Graph.{place_at, instruction_at}
+use Rattle.flt_graph.specs.Instruction.{roles}
 use Rattle.flt_graph.specs.declared.graph.Graph.{Graph}
 use Rattle.flt_graph.specs.declared.instruction.Instruction.{Instruction}
 use Rattle.flt_graph.specs.declared.instruction.Instruction.TheVariants as instruction
@@ -114,7 +115,7 @@ free_return s l x hs st r h = refl
 free_breaks : (s : Setting) (l : Level) (x : State) (hs : List HeldLock) (i : Instruction) (r : Rule) → reads_locks r ≡ false →
     breaks s x i r ≡ breaks (levelled s l) (locked x hs) i r
 free_breaks s l x hs (instruction.Act a next) r h = free_action x hs a r
-free_breaks s l x hs (instruction.Call c granted failed) r h = free_row (row c.call) s l x hs c r h
+free_breaks s l x hs (instruction.Call c granted failed) r h = free_row (row (roles c).call) s l x hs (roles c) r h
 free_breaks s l x hs (instruction.Test t granted failed) r h = free_test s l x hs t r
 free_breaks s l x hs (instruction.Repeat turns body next) r h = refl
 free_breaks s l x hs (instruction.Return st) r h = free_return s l x hs st r h
@@ -303,7 +304,7 @@ module _ (place : Place) (x : State) (t : Situation) (m : Means x t) where
   -- what is to blame in a situation is to blame in each state that means it
   about_grows : (i : Instruction) (r : Rule) (u : Subject) → is_about place (alone t) i r u ≡ true → is_about place x i r u ≡ true
   about_grows (instruction.Act a next) r u = λ h. h
-  about_grows (instruction.Call c granted failed) r u = about_row (row c.call) c r u
+  about_grows (instruction.Call c granted failed) r u = about_row (row (roles c).call) (roles c) r u
   about_grows (instruction.Test f granted failed) r u = λ h. h
   about_grows (instruction.Repeat turns body next) r u = λ h. h
   about_grows (instruction.Return st) r u = about_return st r u
@@ -341,7 +342,7 @@ free_about_row w place x hs c r u = refl
 free_about : (place : Place) (x : State) (hs : List HeldLock) (i : Instruction) (r : Rule) (u : Subject) → reads_locks r ≡ false →
     is_about place x i r u ≡ is_about place (locked x hs) i r u
 free_about place x hs (instruction.Act a next) r u h = refl
-free_about place x hs (instruction.Call c granted failed) r u h = free_about_row (row c.call) place x hs c r u
+free_about place x hs (instruction.Call c granted failed) r u h = free_about_row (row (roles c).call) place x hs (roles c) r u
 free_about place x hs (instruction.Test f granted failed) r u h = refl
 free_about place x hs (instruction.Repeat turns body next) r u h = refl
 free_about place x hs (instruction.Return st) r u h = free_about_return place x hs st r u h

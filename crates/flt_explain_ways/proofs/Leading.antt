@@ -19,6 +19,7 @@ use Rattle.flt_tree.specs.declared.filter.Test.TheVariants as test
 use Rattle.flt_tree.specs.declared.variable.ContextVariable.{ContextVariable}
 use Rattle.flt_tree.specs.declared.variable.OperationVariable.{OperationVariable}
 use Rattle.flt_tree.specs.declared.variable.OperationVariable.TheVariants.{Removed}
+use Rattle.flt_graph.specs.Instruction.{roles}
 use Rattle.flt_graph.specs.Points.{successor}
 use Rattle.flt_graph.specs.declared.instruction.Instruction.{Instruction}
 use Rattle.flt_graph.specs.declared.instruction.Instruction.TheVariants as instruction
@@ -309,8 +310,8 @@ leads : (i : Instruction) (t : Situation) (outcome gives : Bool) →
 leads (instruction.Act a next) t true gives = (refl, (refl, acted_is a gives t))
 leads (instruction.Act a next) t false gives = refl
 leads (instruction.Call c granted refused) t true gives =
-    (refl, (refl, called_is c (row c.call).on_ok gives (alone t) t (is_alone gives t)))
-leads (instruction.Call c granted refused) t false gives = failure_leads c (row c.call).on_fail refused gives t
+    (refl, (refl, called_is (roles c) (row (roles c).call).on_ok gives (alone t) t (is_alone gives t)))
+leads (instruction.Call c granted refused) t false gives = failure_leads (roles c) (row (roles c).call).on_fail refused gives t
 leads (instruction.Test f granted refused) t true gives = true_leads f gives t granted
 leads (instruction.Test f granted refused) t false gives = false_leads f gives t refused
 leads (instruction.Repeat turns block next) t true gives = (refl, (refl, is_alone gives t))

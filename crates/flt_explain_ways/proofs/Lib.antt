@@ -1,4 +1,3 @@
-pub mod Bits
 pub mod Blame
 pub mod Breaking
 pub mod Examples
@@ -14,7 +13,6 @@ pub mod Nine
 pub mod NoWays
 pub mod OnWays
 pub mod Parts
-pub mod Reading
 pub mod Searched
 pub mod Searching
 pub mod Singles

@@ -16,6 +16,7 @@ use Rattle.flt_tree.specs.declared.filter.Action.{Action}
 use Rattle.flt_tree.specs.declared.filter.Action.TheVariants as action
 use Rattle.flt_tree.specs.declared.variable.OperationVariable.TheVariants.{Removed}
 use Rattle.flt_graph.specs.Graph.{place_at, instruction_at}
+use Rattle.flt_graph.specs.Instruction.{roles}
 use Rattle.flt_graph.specs.Points.{successor}
 use Rattle.flt_graph.specs.declared.graph.Graph.{Graph}
 use Rattle.flt_graph.specs.declared.instruction.Instruction.{Instruction}
@@ -74,8 +75,8 @@ acted_whole (action.WriteValue c a) t h = h
 
 leaves_whole : (i : Instruction) (outcome gives : Bool) (t : Situation) → IsWhole t → IsWhole (leaves i outcome gives t)
 leaves_whole (instruction.Act a next) outcome gives t h = acted_whole a t h
-leaves_whole (instruction.Call c granted refused) true gives t h = called_whole c (row c.call).on_ok gives t h
-leaves_whole (instruction.Call c granted refused) false gives t h = failed_whole c (row c.call).on_fail gives t h
+leaves_whole (instruction.Call c granted refused) true gives t h = called_whole (roles c) (row (roles c).call).on_ok gives t h
+leaves_whole (instruction.Call c granted refused) false gives t h = failed_whole (roles c) (row (roles c).call).on_fail gives t h
 leaves_whole (instruction.Test q granted refused) outcome gives t h = h
 leaves_whole (instruction.Repeat turns block next) outcome gives t h = h
 leaves_whole (instruction.Return status) outcome gives t h = h

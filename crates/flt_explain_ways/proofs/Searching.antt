@@ -149,7 +149,8 @@ arrived_by_more x r (Some m) e = marked_more x r m e (is_marked m r.is_so) refl
 pub arrived_more : (x : Search) (r : ReachedPoint) → IsMore x (arrived x r)
 arrived_more x r = arrived_by_more x r (slice_get x.seen r.point) refl
 
-reached_if : (x : Search) (r : ReachedPoint) (m : Mark) → AreMarks x → slice_get x.seen r.point ≡ Some m → (b : Bool) → is_marked m r.is_so ≡ b →
+reached_if : (x : Search) (r : ReachedPoint) (m : Mark) → AreMarks x →
+    slice_get x.seen r.point ≡ Some m → (b : Bool) → is_marked m r.is_so ≡ b →
     IsReached (if b then x else added x r m).found r.point r.is_so
 reached_if x r m all e true is = all r.point m r.is_so e is
 reached_if x r m all e false is = record { number = length x.found; one = r; there = last_at x.found r; point = refl; same = refl }
@@ -191,7 +192,8 @@ module _ (g : Graph) (k : ℕ) (f : Fact) where
         (still_arrival x.found (r ∷ []) (length x.found) r r.arrival new) in
         subst (λ (t : ReachedPoint). IsArrival g k f (x.found ++ r ∷ []) n t t.arrival) same here
 
-  arrivals_if : (x : Search) (r : ReachedPoint) (m : Mark) → IsArrival g k f x.found (length x.found) r r.arrival → AreArrivals g k f x.found →
+  arrivals_if : (x : Search) (r : ReachedPoint) (m : Mark) →
+      IsArrival g k f x.found (length x.found) r r.arrival → AreArrivals g k f x.found →
       (b : Bool) → AreArrivals g k f (if b then x else added x r m).found
   arrivals_if x r m new all true = all
   arrivals_if x r m new all false = added_arrivals x r m new all
@@ -202,7 +204,8 @@ module _ (g : Graph) (k : ℕ) (f : Fact) where
   arrivals_by x r new all (Some m) = arrivals_if x r m new all (is_marked m r.is_so)
 
   -- what is reached by one more step is reached by steps
-  pub arrived_arrivals : (x : Search) (r : ReachedPoint) → IsArrival g k f x.found (length x.found) r r.arrival → AreArrivals g k f x.found →
+  pub arrived_arrivals : (x : Search) (r : ReachedPoint) →
+      IsArrival g k f x.found (length x.found) r r.arrival → AreArrivals g k f x.found →
       AreArrivals g k f (arrived x r).found
   arrived_arrivals x r new all = arrivals_by x r new all (slice_get x.seen r.point)
 

@@ -21,6 +21,7 @@ use Rattle.flt_tree.specs.declared.filter.Test.TheVariants as test
 use Rattle.flt_tree.specs.declared.variable.ContextVariable.{ContextVariable}
 use Rattle.flt_tree.specs.declared.variable.OperationVariable.{OperationVariable}
 use Rattle.flt_tree.specs.declared.variable.OperationVariable.TheVariants.{Removed}
+use Rattle.flt_graph.specs.Instruction.{roles}
 use Rattle.flt_graph.specs.declared.instruction.Instruction.{Instruction}
 use Rattle.flt_graph.specs.declared.instruction.Instruction.TheVariants as instruction
 use Rattle.flt_graph.specs.declared.instruction.Invocation.{Invocation}
@@ -59,8 +60,10 @@ acted_context_now (action.WriteValue c a) gives t v h = refl
 context_behind : (i : Instruction) (outcome gives : Bool) (t : Situation) (v : ContextVariable) → IsWhole t →
     context_now (leaves i outcome gives t) v ≡ status_from (left (context_change i outcome v) gives) (context_now t v)
 context_behind (instruction.Act a next) outcome gives t v h = acted_context_now a gives t v h
-context_behind (instruction.Call c granted refused) true gives t v h = failed_context_now c (Some (row c.call).on_ok) gives t v h
-context_behind (instruction.Call c granted refused) false gives t v h = failed_context_now c (row c.call).on_fail gives t v h
+context_behind (instruction.Call c granted refused) true gives t v h =
+    failed_context_now (roles c) (Some (row (roles c).call).on_ok) gives t v h
+context_behind (instruction.Call c granted refused) false gives t v h =
+    failed_context_now (roles c) (row (roles c).call).on_fail gives t v h
 context_behind (instruction.Test q granted refused) outcome gives t v h = refl
 context_behind (instruction.Repeat turns block next) outcome gives t v h = refl
 context_behind (instruction.Return status) outcome gives t v h = refl
@@ -87,8 +90,10 @@ acted_operation_now (action.WriteValue c a) gives t v h = refl
 operation_behind : (i : Instruction) (outcome gives : Bool) (t : Situation) (v : OperationVariable) → IsWhole t →
     operation_now (leaves i outcome gives t) v ≡ status_from (left (operation_change i outcome v) gives) (operation_now t v)
 operation_behind (instruction.Act a next) outcome gives t v h = acted_operation_now a gives t v h
-operation_behind (instruction.Call c granted refused) true gives t v h = failed_operation_now c (Some (row c.call).on_ok) gives t v h
-operation_behind (instruction.Call c granted refused) false gives t v h = failed_operation_now c (row c.call).on_fail gives t v h
+operation_behind (instruction.Call c granted refused) true gives t v h =
+    failed_operation_now (roles c) (Some (row (roles c).call).on_ok) gives t v h
+operation_behind (instruction.Call c granted refused) false gives t v h =
+    failed_operation_now (roles c) (row (roles c).call).on_fail gives t v h
 operation_behind (instruction.Test q granted refused) outcome gives t v h = refl
 operation_behind (instruction.Repeat turns block next) outcome gives t v h = refl
 operation_behind (instruction.Return status) outcome gives t v h = refl
@@ -112,8 +117,8 @@ acted_locks (action.WriteValue c a) t = refl
 lock_behind : (i : Instruction) (outcome gives : Bool) (t : Situation) (l : LockNumber) → IsWhole t →
     holds_lock l (leaves i outcome gives t).locks ≡ held_after (lock_change i outcome l) (holds_lock l t.locks)
 lock_behind (instruction.Act a next) outcome gives t l h = ap (holds_lock l) (acted_locks a t)
-lock_behind (instruction.Call c granted refused) true gives t l h = failed_lock_now c (Some (row c.call).on_ok) gives t l h
-lock_behind (instruction.Call c granted refused) false gives t l h = failed_lock_now c (row c.call).on_fail gives t l h
+lock_behind (instruction.Call c granted refused) true gives t l h = failed_lock_now (roles c) (Some (row (roles c).call).on_ok) gives t l h
+lock_behind (instruction.Call c granted refused) false gives t l h = failed_lock_now (roles c) (row (roles c).call).on_fail gives t l h
 lock_behind (instruction.Test q granted refused) outcome gives t l h = refl
 lock_behind (instruction.Repeat turns block next) outcome gives t l h = refl
 lock_behind (instruction.Return status) outcome gives t l h = refl
@@ -134,8 +139,8 @@ acted_mode (action.WriteValue c a) t = refl
 -- the mode stays
 mode_behind : (i : Instruction) (outcome gives : Bool) (t : Situation) → (leaves i outcome gives t).mode ≡ t.mode
 mode_behind (instruction.Act a next) outcome gives t = acted_mode a t
-mode_behind (instruction.Call c granted refused) true gives t = failed_mode c (Some (row c.call).on_ok) gives t
-mode_behind (instruction.Call c granted refused) false gives t = failed_mode c (row c.call).on_fail gives t
+mode_behind (instruction.Call c granted refused) true gives t = failed_mode (roles c) (Some (row (roles c).call).on_ok) gives t
+mode_behind (instruction.Call c granted refused) false gives t = failed_mode (roles c) (row (roles c).call).on_fail gives t
 mode_behind (instruction.Test q granted refused) outcome gives t = refl
 mode_behind (instruction.Repeat turns block next) outcome gives t = refl
 mode_behind (instruction.Return status) outcome gives t = refl
@@ -157,8 +162,8 @@ acted_draining (action.WriteValue c a) t = refl
 -- and so does draining
 draining_behind : (i : Instruction) (outcome gives : Bool) (t : Situation) → (leaves i outcome gives t).draining ≡ t.draining
 draining_behind (instruction.Act a next) outcome gives t = acted_draining a t
-draining_behind (instruction.Call c granted refused) true gives t = failed_draining c (Some (row c.call).on_ok) gives t
-draining_behind (instruction.Call c granted refused) false gives t = failed_draining c (row c.call).on_fail gives t
+draining_behind (instruction.Call c granted refused) true gives t = failed_draining (roles c) (Some (row (roles c).call).on_ok) gives t
+draining_behind (instruction.Call c granted refused) false gives t = failed_draining (roles c) (row (roles c).call).on_fail gives t
 draining_behind (instruction.Test q granted refused) outcome gives t = refl
 draining_behind (instruction.Repeat turns block next) outcome gives t = refl
 draining_behind (instruction.Return status) outcome gives t = refl

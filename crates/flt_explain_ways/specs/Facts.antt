@@ -16,6 +16,7 @@ use Rattle.flt_tree.specs.declared.filter.Test.TheVariants as test
 use Rattle.flt_tree.specs.declared.variable.ContextVariable.{ContextVariable}
 use Rattle.flt_tree.specs.declared.variable.OperationVariable.{OperationVariable}
 use Rattle.flt_tree.specs.declared.variable.OperationVariable.TheVariants.{Removed}
+use Rattle.flt_graph.specs.Instruction.{roles}
 use Rattle.flt_graph.specs.declared.instruction.Instruction.{Instruction}
 use Rattle.flt_graph.specs.declared.instruction.Instruction.TheVariants as instruction
 use Rattle.flt_graph.specs.declared.instruction.Invocation.{Invocation}
@@ -98,19 +99,19 @@ acted_operation _ v = becomes.Stays
 -- by an instruction that comes out so
 abbrev pub context_change : Instruction → Bool → ContextVariable → Change
 context_change (instruction.Act a next) outcome v = acted_context a v
-context_change (instruction.Call c granted refused) true v = called_context c (row c.call).on_ok v
-context_change (instruction.Call c granted refused) false v = failed_context c (row c.call).on_fail v
+context_change (instruction.Call c granted refused) true v = called_context (roles c) (row (roles c).call).on_ok v
+context_change (instruction.Call c granted refused) false v = failed_context (roles c) (row (roles c).call).on_fail v
 context_change _ outcome v = becomes.Stays
 
 abbrev pub operation_change : Instruction → Bool → OperationVariable → Change
 operation_change (instruction.Act a next) outcome v = acted_operation a v
-operation_change (instruction.Call c granted refused) true v = called_operation c (row c.call).on_ok v
-operation_change (instruction.Call c granted refused) false v = failed_operation c (row c.call).on_fail v
+operation_change (instruction.Call c granted refused) true v = called_operation (roles c) (row (roles c).call).on_ok v
+operation_change (instruction.Call c granted refused) false v = failed_operation (roles c) (row (roles c).call).on_fail v
 operation_change _ outcome v = becomes.Stays
 
 abbrev pub lock_change : Instruction → Bool → LockNumber → LockChange
-lock_change (instruction.Call c granted refused) true l = called_lock c (row c.call).on_ok l
-lock_change (instruction.Call c granted refused) false l = failed_lock c (row c.call).on_fail l
+lock_change (instruction.Call c granted refused) true l = called_lock (roles c) (row (roles c).call).on_ok l
+lock_change (instruction.Call c granted refused) false l = failed_lock (roles c) (row (roles c).call).on_fail l
 lock_change _ outcome l = list.Stays
 
 -- ---- what makes a fact
@@ -176,7 +177,7 @@ may_find_with _ f outcome = true
 abbrev pub lets_pass : Instruction → Bool → Fact → Bool
 lets_pass (instruction.Act a next) outcome f = outcome
 lets_pass (instruction.Call c granted refused) true f = true
-lets_pass (instruction.Call c granted refused) false f = can_fail (row c.call).on_fail
+lets_pass (instruction.Call c granted refused) false f = can_fail (row (roles c).call).on_fail
 lets_pass (instruction.Test t granted refused) outcome f = may_find_with t f outcome
 lets_pass (instruction.Repeat turns block next) outcome f = true
 lets_pass (instruction.Return status) outcome f = false

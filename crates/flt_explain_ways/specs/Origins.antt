@@ -9,6 +9,7 @@ use Rattle.flt_rules.specs.declared.place.Mode.TheVariants.{Irp, Fast}
 use Rattle.flt_rules.specs.Held.{holds_lock}
 use Rattle.flt_rules.specs.Table.{row}
 use Rattle.flt_graph.specs.Graph.{place_at, instruction_at}
+use Rattle.flt_graph.specs.Instruction.{roles}
 use Rattle.flt_graph.specs.Points.{successor}
 use Rattle.flt_graph.specs.declared.graph.Graph.{Graph}
 use Rattle.flt_graph.specs.declared.instruction.Instruction.{Instruction}
@@ -144,7 +145,7 @@ HaveOrigins = (g : Graph) (k : ℕ) (clean : Bool) (w : Way) (f : Fact) → IsWa
 abbrev pub is_outcome : Instruction → Bool → Bool
 is_outcome (instruction.Act a next) outcome = outcome
 is_outcome (instruction.Call c granted refused) true = true
-is_outcome (instruction.Call c granted refused) false = can_fail (row c.call).on_fail
+is_outcome (instruction.Call c granted refused) false = can_fail (row (roles c).call).on_fail
 is_outcome (instruction.Test t granted refused) outcome = true
 is_outcome (instruction.Repeat turns block next) outcome = true
 is_outcome (instruction.Return status) outcome = false

@@ -5,7 +5,6 @@ ghost use Rattle.flt_explain_ways.specs.Facts.{is_so};
 ghost use Rattle.flt_explain_ways.specs.Origins as spec;
 ghost use Rattle.flt_rules.specs.Held.{holds_lock};
 
-use crate::entered::set_at;
 use crate::facts::{Fact, VariableStatus};
 use crate::situation::Situation;
 use flt_abs::{Abs, Draining, LockList, Modes, Statuses};
@@ -62,11 +61,11 @@ fn fact_in(subject: Subject, state: &Abs) -> Option<Fact>
 {
     match subject {
         Subject::Context(variable) => {
-            let set = set_at(state.contexts(), variable.place());
+            let set = state.context(variable);
             Some(Fact::Context(variable, word_in(set)))
         }
         Subject::Operation(variable) => {
-            let set = set_at(state.operations(), variable.place());
+            let set = state.operation(variable);
             Some(Fact::Operation(variable, word_in(set)))
         }
         Subject::Mode => Some(Fact::Mode(mode_in(state.modes()))),

@@ -84,7 +84,7 @@ fn fine_for_status(instruction: &Instruction) -> Possible {
 /// The same for a call, so that the fault is the call itself.
 fn fine_for_call(instruction: &Instruction) -> Possible {
     match instruction {
-        Instruction::Call(call, _, _) if !is_legal_in_draining(call.call) => {
+        Instruction::Call(call, _, _) if !is_legal_in_draining(call.roles().call) => {
             Possible::ALL.with(Part::DRAINING, NO)
         }
         _ => Possible::ALL,
@@ -131,7 +131,7 @@ fn wanted(finding: &Finding, instruction: &Instruction) -> Possible {
 /// The condition that a call's greatest level is exceeded.
 fn wanted_level(instruction: &Instruction) -> LockWant {
     match instruction {
-        Instruction::Call(call, _, _) => LockWant::Above(row(call.call).greatest),
+        Instruction::Call(call, _, _) => LockWant::Above(row(call.roles().call).greatest),
         _ => LockWant::Nothing,
     }
 }

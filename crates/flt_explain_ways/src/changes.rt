@@ -3,7 +3,7 @@
 ghost use Rattle.std.specs.Prelude.{◌≡◌};
 ghost use Rattle.flt_explain_ways.specs.Facts as spec;
 
-use crate::names::{is_context, is_lock, is_operation};
+use flt_explain::{is_context, is_lock, is_operation};
 use flt_graph::{Action, ContextVariable, Instruction, Invocation, LockNumber, OperationVariable};
 use flt_rules::{Change, Effects, LockChange, row};
 
@@ -84,12 +84,16 @@ pub(crate) fn context_change(
     match (instruction, granted) {
         (Instruction::Act(action, _), _) => acted_context(*action, variable),
         (Instruction::Call(call, _, _), true) => {
-            called_context(call, &row(call.call).on_ok, variable)
+            let call = call.roles();
+            called_context(&call, &row(call.call).on_ok, variable)
         }
-        (Instruction::Call(call, _, _), false) => match row(call.call).on_fail {
-            Some(effects) => called_context(call, &effects, variable),
-            None => Change::Stays,
-        },
+        (Instruction::Call(call, _, _), false) => {
+            let call = call.roles();
+            match row(call.call).on_fail {
+                Some(effects) => called_context(&call, &effects, variable),
+                None => Change::Stays,
+            }
+        }
         _ => Change::Stays,
     }
 }
@@ -105,12 +109,16 @@ pub(crate) fn operation_change(
     match (instruction, granted) {
         (Instruction::Act(action, _), _) => acted_operation(*action, variable),
         (Instruction::Call(call, _, _), true) => {
-            called_operation(call, &row(call.call).on_ok, variable)
+            let call = call.roles();
+            called_operation(&call, &row(call.call).on_ok, variable)
         }
-        (Instruction::Call(call, _, _), false) => match row(call.call).on_fail {
-            Some(effects) => called_operation(call, &effects, variable),
-            None => Change::Stays,
-        },
+        (Instruction::Call(call, _, _), false) => {
+            let call = call.roles();
+            match row(call.call).on_fail {
+                Some(effects) => called_operation(&call, &effects, variable),
+                None => Change::Stays,
+            }
+        }
         _ => Change::Stays,
     }
 }
@@ -120,11 +128,17 @@ pub(crate) fn lock_change(instruction: &Instruction, granted: bool, lock: LockNu
     ensures { result ≡ spec.lock_change instruction.now granted lock }
 {
     match (instruction, granted) {
-        (Instruction::Call(call, _, _), true) => called_lock(call, &row(call.call).on_ok, lock),
-        (Instruction::Call(call, _, _), false) => match row(call.call).on_fail {
-            Some(effects) => called_lock(call, &effects, lock),
-            None => LockChange::Stays,
-        },
+        (Instruction::Call(call, _, _), true) => {
+            let call = call.roles();
+            called_lock(&call, &row(call.call).on_ok, lock)
+        }
+        (Instruction::Call(call, _, _), false) => {
+            let call = call.roles();
+            match row(call.call).on_fail {
+                Some(effects) => called_lock(&call, &effects, lock),
+                None => LockChange::Stays,
+            }
+        }
         _ => LockChange::Stays,
     }
 }

@@ -5,9 +5,9 @@ ghost use Rattle.flt_abs.specs.Outcome.{agrees, can_fail};
 ghost use Rattle.flt_explain_ways.specs.Facts as spec;
 
 use crate::changes::{context_change, lock_change, operation_change};
-use crate::names::{is_context, is_operation};
+use flt_explain::{is_context, is_operation};
 use flt_graph::{ContextVariable, Instruction, LockNumber, OperationVariable, Test};
-use flt_rules::{Change, LockChange, Mode, row};
+use flt_rules::{Change, LockChange, Mode};
 
 /// The status of a variable: it is NULL, it is held, or it was released or handed over.
 #[derive(Clone, Copy)]
@@ -141,7 +141,7 @@ fn lets_pass(instruction: &Instruction, granted: bool, fact: Fact) -> bool
 {
     match instruction {
         Instruction::Act(_, _) => granted,
-        Instruction::Call(call, _, _) => granted || row(call.call).on_fail.is_some(),
+        Instruction::Call(call, _, _) => granted || call.can_fail(),
         Instruction::Test(test, _, _) => may_find_with(*test, fact, granted),
         Instruction::Repeat(_, _, _) => true,
         Instruction::Return(_) | Instruction::End => false,

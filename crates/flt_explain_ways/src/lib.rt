@@ -19,7 +19,6 @@ mod ground;
 mod grouping;
 mod held;
 mod meeting;
-mod names;
 mod origin;
 mod path;
 mod plan;

@@ -10,7 +10,6 @@ use crate::entered::may_be_at_entry;
 use crate::facts::{Fact, keeps, makes};
 use crate::origin::{Cause, Origin, is_made_by, next};
 use flt_graph::{Graph, Instruction};
-use flt_rules::row;
 use sqlite_items::Items;
 use std::alloc::{AllocError, Global};
 
@@ -35,7 +34,7 @@ fn may_come_out(instruction: &Instruction, granted: bool) -> bool
 {
     match instruction {
         Instruction::Act(_, _) => granted,
-        Instruction::Call(call, _, _) => granted || row(call.call).on_fail.is_some(),
+        Instruction::Call(call, _, _) => granted || call.can_fail(),
         Instruction::Test(_, _, _) | Instruction::Repeat(_, _, _) => true,
         Instruction::Return(_) | Instruction::End => false,
     }

@@ -279,7 +279,8 @@ fn spot_at(alloc: Global, graph: &Graph, callback: usize, point: usize) -> Spot 
     let spot = match graph.instruction_ref(callback, point) {
         Instruction::Act(action, next) => spot_of_action(*action, *next),
         Instruction::Call(call, granted, refused) => {
-            spot_of_call(alloc, graph, callback, point, call, *granted, *refused)
+            let call = call.roles();
+            spot_of_call(alloc, graph, callback, point, &call, *granted, *refused)
         }
         Instruction::Test(test, granted, refused) => {
             spot_of_test(graph, callback, *test, *granted, *refused)

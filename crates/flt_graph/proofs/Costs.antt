@@ -1,8 +1,8 @@
 -- What remains of a body never costs more than the body.
 use Rattle.std.proofs.Common.{◌≡◌, ℕ, ◌+◌, ◌*◌, ◌<◌, ◌≤◌, max, List, ◌∷◌, ◌++◌, map, sum, ap, ◌∙◌, arith}
 use Rattle.std.proofs.Math.Nat.{mul-le-mul_right}
-use Rattle.std.proofs.lemmas.List.{append-nil, map-append}
-use Rattle.std.proofs.lemmas.List.Sums.{sum_by-append, sum_by-cons}
+use Rattle.std.proofs.lemmas.List.{append-nil}
+use Rattle.flt_tree.proofs.Costs.{cost_cons, cost_append}
 use Rattle.flt_tree.specs.Measures.{cost, cost_of, cost_step}
 use Rattle.flt_tree.specs.declared.filter.Condition.{Condition}
 use Rattle.flt_tree.specs.declared.filter.Span.{Span}
@@ -15,13 +15,7 @@ use Rattle.flt_graph.specs.Points.{In, top, later, granted_block, refused_block,
 use Rattle.flt_graph.specs.Turns.{AreBegun, AreBegunRound, StandsWith}
 use Rattle.flt_graph.specs.declared.turns.Turn.{Turn}
 
--- ---- the cost of lists and statements
-
-cost_cons : (s : Statement) (rest : List Statement) → cost (s ∷ rest) ≡ cost_of s + cost rest
-cost_cons s rest = sum_by-cons (λ (n : ℕ). n) (cost_of s) (map cost_of rest)
-
-cost_append : (xs ys : List Statement) → cost (xs ++ ys) ≡ cost xs + cost ys
-cost_append xs ys = ap (λ (ns : List ℕ). sum ns) (map-append cost_of xs ys) ∙ sum_by-append (λ (n : ℕ). n) (map cost_of xs) (map cost_of ys)
+-- ---- the cost of statements
 
 -- a statement costs what its outermost layer says
 layer_cost : (s : Statement) (layer : Statement-F Statement) → out-Statement s ≡ layer →

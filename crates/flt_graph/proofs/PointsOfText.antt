@@ -12,6 +12,7 @@ use Rattle.flt_tree.specs.Declarations.{has_event, AreNewCallbacks, AreWhole, Is
 use Rattle.flt_tree.specs.Declarations.{test_finds, finds_step, statement_finds, finds_routines}
 use Rattle.flt_rules.specs.Limits.{max_depth, max_repeats}
 use Rattle.flt_tree.specs.Measures.{points_of, points, points_step}
+use Rattle.flt_tree.specs.Registered.{numbered}
 use Rattle.flt_tree.specs.WellFormed as fine
 use Rattle.flt_tree.specs.WellFormed.{IsWellFormed, IsCondition, IsFallible, IsStatement, IsElse, AreStatements, AreCallbacks}
 use Rattle.flt_tree.specs.declared.filter.Callback.{Callback}
@@ -26,6 +27,7 @@ use Rattle.flt_tree.specs.declared.filter.Lock.{Lock}
 use Rattle.flt_tree.specs.declared.filter.PlainCall.{PlainCall}
 use Rattle.flt_tree.specs.declared.filter.PlainCall.TheVariants as plain_call
 use Rattle.flt_tree.specs.declared.filter.Position.{Position}
+use Rattle.flt_tree.specs.declared.filter.Routine.{Routine}
 use Rattle.flt_tree.specs.declared.filter.Statement.{Statement, out-Statement}
 use Rattle.flt_tree.specs.declared.filter.Statement.TheFolds.{map-Statement, fold_out-Statement}
 use Rattle.flt_tree.specs.declared.filter.Statement.TheOpen.{Statement-F}
@@ -57,8 +59,8 @@ none_out p q to e h none =
 -- declared twice
 module _ (cs : List Callback) (locks : List Lock) (queue : Bool) (from : Head)
     (canceled : queue ≡ true → has_event Canceled cs ≡ true) (new : AreNewCallbacks [] cs) where
-  call_served : (c : FallibleCall) → IsFallible queue c → finds_routine cs from c ≡ true →
-      IsCallServed cs (head_place from) (fallible cs c).call (fallible cs c).routine
+  call_served : (c : FallibleCall Routine) → IsFallible queue c → finds_routine cs from c ≡ true →
+      IsCallServed cs (head_place from) (fallible (numbered cs c)).call (fallible (numbered cs c)).routine
   call_served (fallible_call.AllocateContext d) h e = tt
   call_served (fallible_call.GetContext a d) h e = tt
   call_served (fallible_call.SetContext a x c d) h e = tt

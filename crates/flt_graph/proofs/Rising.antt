@@ -7,6 +7,7 @@ use Rattle.std.proofs.lemmas.Bool.{eqb-true, cases_lt}
 use Rattle.flt_rules.specs.Table.{row}
 use Rattle.flt_rules.specs.declared.columns.Effects.{Effects}
 use Rattle.flt_tree.specs.Measures.{points_of, points, points_step}
+use Rattle.flt_tree.specs.Registered.{numbered}
 use Rattle.flt_tree.specs.declared.filter.Callback.{Callback}
 use Rattle.flt_tree.specs.declared.filter.Condition.{Condition}
 use Rattle.flt_tree.specs.declared.filter.Condition.TheVariants as condition
@@ -126,7 +127,7 @@ call_rises g n a b to e r s h = elim (one_of (edge a to) (failing e b to) h) [
 choice_rises : (all : List Callback) (g : CallbackGraph) (n a b to : ℕ) (asked : Condition) → Rises g n a → Rises g n b →
     0 < edges_of (choice all asked a b) to → Rises g n to
 choice_rises all g n a b to (condition.Test t) r s h = two_rise g n a b to r s h
-choice_rises all g n a b to (condition.Succeeds k) r s h = call_rises g n a b to (row (fallible all k).call).on_fail r s h
+choice_rises all g n a b to (condition.Succeeds k) r s h = call_rises g n a b to (row (fallible (numbered all k)).call).on_fail r s h
 
 -- a `repeat` of a text is one at its point
 layer_rises : (all : List Callback) (g : CallbackGraph) (layer : Statement-F Statement) (n after to : ℕ) → Rises g n after →

@@ -1,18 +1,17 @@
 -- A routine that is declared once is found at the callback that has its name.
-use Rattle.std.proofs.Common.{◌≡◌, ℕ, suc, ◌<◌, Bool, true, false, List, [], ◌∷◌, ◌++◌, length, Some, None, sym, refl, ◌∙◌, arith}
-use Rattle.std.specs.Prelude.{slice_get, cond, nat_lt, ◌||◌}
-use Rattle.std.specs.List.{list_any, position, position_or_len}
+use Rattle.std.proofs.Common.{◌≡◌, ℕ, suc, Bool, true, false, List, [], ◌∷◌, ◌++◌, Some, sym, refl, ◌∙◌, arith}
+use Rattle.std.specs.Prelude.{slice_get, ◌||◌}
+use Rattle.std.specs.List.{list_any, position_or_len}
 use Rattle.std.specs.Str.{bytes_eq}
 use Rattle.std.proofs.lemmas.Bool.{and_parts}
 use Rattle.std.proofs.lemmas.List.Folds.{list_any-append}
-use Rattle.std.proofs.lemmas.Option.{slice_get_within}
 use Rattle.std.proofs.lemmas.Slice.Eq.{bytes_eq-Decides}
 use Rattle.flt_rules.specs.declared.place.Place.TheVariants as place
 use Rattle.flt_tree.specs.Filter.{head_place, is_named}
 use Rattle.flt_tree.specs.Declarations.{has_routine, is_declared, AreNewCallbacks, may_be_pre, may_be_post}
 use Rattle.flt_tree.specs.Declarations.{runs_deferred, runs_generic, has_deferred, has_generic}
 use Rattle.flt_tree.specs.Names.{Text}
-use Rattle.flt_tree.specs.Registered.{routine_at}
+use Rattle.flt_tree.specs.Registered.{routine_of}
 use Rattle.flt_tree.specs.declared.filter.Callback.{Callback}
 use Rattle.flt_tree.specs.declared.filter.Head.{Head}
 use Rattle.flt_tree.specs.declared.filter.Head.TheVariants.{Pre, Post, Canceled, DeferredPre, DeferredPost, Generic}
@@ -122,16 +121,6 @@ finds name test named before (c ∷ cs) new e =
           passes = found.passes;
         }
 
--- the number that `routine_at` gives
-number_found : (p : Callback → Bool) (cs : List Callback) (n : ℕ) (c : Callback) → position_or_len p cs ≡ n →
-    slice_get cs n ≡ Some c → position p cs ≡ Some n
-number_found p cs n c e there =
-    let below : n < length cs = slice_get_within cs n c there in
-    rw e (within n (length cs) below)
-  where
-    within : (i l : ℕ) → i < l → cond (nat_lt i l) (Some i) None ≡ Some i
-    within i l h = search (arith)
-
 -- ---- the routines of work items
 
 runs_named : (from : Head) (name : Text) (h : Head) → runs_deferred from name h ≡ true → is_named name h ≡ true
@@ -176,13 +165,13 @@ generic_place name (Post operation) e = absurd (differ e)
 generic_place name Canceled e = absurd (differ e)
 
 routine_there : (cs : List Callback) (r : Routine) (at : _) (test : Head → Bool) → (f : Finds r.name test cs) →
-    head_place f.callback.head ≡ at → IsRoutine cs at (routine_at cs r)
+    head_place f.callback.head ≡ at → IsRoutine cs at (Some (routine_of cs r))
 routine_there cs r at test f e =
-    rw (number_found (λ (c : Callback). is_named r.name c.head) cs f.number f.callback f.first f.there) (f.callback, (f.there, e))
+    rw f.first (f.callback, (f.there, e))
 
 -- a deferred work item's routine is there, of the kind that goes on with the operation
 pub deferred_there : (cs : List Callback) (from : Head) (r : Routine) → AreNewCallbacks [] cs →
-    has_deferred from r.name cs ≡ true → IsDeferred cs (head_place from) (routine_at cs r)
+    has_deferred from r.name cs ≡ true → IsDeferred cs (head_place from) (Some (routine_of cs r))
 deferred_there cs (Pre operation) r new e =
     let f = finds r.name (runs_deferred (Pre operation) r.name) (runs_named (Pre operation) r.name) [] cs new e in
     routine_there cs r place.DeferredPre (runs_deferred (Pre operation) r.name) f (from_pre r.name operation f.callback.head f.passes)
@@ -196,7 +185,7 @@ deferred_there cs (Generic routine) r new e = tt
 
 -- a generic work item's routine is there
 pub generic_there : (cs : List Callback) (r : Routine) → AreNewCallbacks [] cs → has_generic r.name cs ≡ true →
-    IsRoutine cs place.Generic (routine_at cs r)
+    IsRoutine cs place.Generic (Some (routine_of cs r))
 generic_there cs r new e =
     let f = finds r.name (runs_generic r.name) (generic_named r.name) [] cs new e in
     routine_there cs r place.Generic (runs_generic r.name) f (generic_place r.name f.callback.head f.passes)

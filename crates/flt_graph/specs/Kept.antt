@@ -4,6 +4,7 @@ use Rattle.std.specs.Prelude.{◌≡◌, ℕ, ◌+◌, ◌<◌, Bool, true, fals
 use Rattle.flt_rules.specs.Table.{row}
 use Rattle.flt_rules.specs.declared.columns.Effects.{Effects}
 use Rattle.flt_graph.specs.Graph.{callback_at, instruction_at}
+use Rattle.flt_graph.specs.Instruction.{roles}
 use Rattle.flt_graph.specs.declared.graph.Graph.{Graph}
 use Rattle.flt_graph.specs.declared.graph.Point.{Point}
 use Rattle.flt_graph.specs.declared.instruction.Instruction.{Instruction}
@@ -21,7 +22,7 @@ failing None to point = 0
 -- how many edges lead from an instruction into a point: the two sides of one instruction count as two
 abbrev pub edges_of : Instruction → ℕ → ℕ
 edges_of (instruction.Act a next) point = edge next point
-edges_of (instruction.Call c granted failed) point = edge granted point + failing (row c.call).on_fail failed point
+edges_of (instruction.Call c granted failed) point = edge granted point + failing (row (roles c).call).on_fail failed point
 edges_of (instruction.Test t granted refused) point = edge granted point + edge refused point
 edges_of (instruction.Repeat turns body next) point = edge body point + edge next point
 edges_of (instruction.Return st) point = 0

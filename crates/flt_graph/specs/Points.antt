@@ -1,7 +1,9 @@
 -- Which statement stands at which point. Each statement has one point; they are numbered in order of the text, an `if` or
 -- a `repeat` before its blocks; the last point is the end of the body. This project's own numbering.
 use Rattle.std.specs.Prelude.{ℕ, zero, suc, ◌+◌, ◌≤◌, ◌≡◌, Bool, true, false, if◌then◌else◌, List, [], ◌∷◌, ◌++◌, Option, Some, None}
+use Rattle.flt_tree.specs.Filter.{span_of}
 use Rattle.flt_tree.specs.Measures.{points_of, points}
+use Rattle.flt_tree.specs.Registered.{numbered}
 use Rattle.flt_tree.specs.declared.filter.Callback.{Callback}
 use Rattle.flt_tree.specs.declared.filter.Condition.{Condition}
 use Rattle.flt_tree.specs.declared.filter.Condition.TheVariants as condition
@@ -9,10 +11,10 @@ use Rattle.flt_tree.specs.declared.filter.Span.{Span}
 use Rattle.flt_tree.specs.declared.filter.Statement.{Statement, out-Statement}
 use Rattle.flt_tree.specs.declared.filter.Statement.TheOpen.{Statement-F}
 use Rattle.flt_tree.specs.declared.filter.Statement.TheVariants as tree
-use Rattle.flt_graph.specs.Instruction.{plain, fallible}
 use Rattle.flt_graph.specs.declared.graph.Point.{Point}
 use Rattle.flt_graph.specs.declared.instruction.Instruction.{Instruction}
 use Rattle.flt_graph.specs.declared.instruction.Instruction.TheVariants as instruction
+use Rattle.flt_graph.specs.declared.instruction.ResolvedCall.TheVariants as resolved
 
 -- ---- the point of a statement
 
@@ -21,23 +23,15 @@ abbrev pub entry : {A : Type 0} → List A → ℕ → ℕ → ℕ
 entry [] at after = after
 entry (s ∷ rest) at after = at
 
--- where a statement stands
-abbrev pub span_of : Statement-F Statement → Span
-span_of (Statement-F.Act span action) = span
-span_of (Statement-F.Call span call) = span
-span_of (Statement-F.Return span status) = span
-span_of (Statement-F.If span condition granted refused) = span
-span_of (Statement-F.Repeat span turns body) = span
-
 -- what an `if` asks, with the point where it holds and the point where it doesn't
 abbrev pub choice : List Callback → Condition → ℕ → ℕ → Instruction
 choice cs (condition.Test t) granted refused = instruction.Test t granted refused
-choice cs (condition.Succeeds c) granted refused = instruction.Call (fallible cs c) granted refused
+choice cs (condition.Succeeds c) granted refused = instruction.Call (resolved.Fallible (numbered cs c)) granted refused
 
 -- what is done at the point of a statement, where it stands at a point and what follows it at another
 abbrev pub instruction_of : List Callback → Statement-F Statement → ℕ → ℕ → Instruction
 instruction_of cs (Statement-F.Act span action) at after = instruction.Act action after
-instruction_of cs (Statement-F.Call span call) at after = instruction.Call (plain call) after after
+instruction_of cs (Statement-F.Call span call) at after = instruction.Call (resolved.Plain call) after after
 instruction_of cs (Statement-F.Return span status) at after = instruction.Return status
 instruction_of cs (Statement-F.If span asked granted refused) at after =
     choice cs asked (entry granted (at + 1) after) (entry refused (at + 1 + points granted) after)

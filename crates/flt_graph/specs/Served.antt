@@ -8,6 +8,7 @@ use Rattle.flt_tree.specs.Filter.{head_place}
 use Rattle.flt_tree.specs.Declarations.{has_event}
 use Rattle.flt_tree.specs.declared.filter.Callback.{Callback}
 use Rattle.flt_tree.specs.declared.filter.Head.TheVariants as head
+use Rattle.flt_graph.specs.Instruction.{roles}
 use Rattle.flt_graph.specs.declared.instruction.Instruction.{Instruction}
 use Rattle.flt_graph.specs.declared.instruction.Instruction.TheVariants as instruction
 
@@ -33,5 +34,5 @@ IsCallServed cs at _ routine = Unit {0}
 
 -- the same of an instruction
 abbrev pub IsInstructionServed : List Callback → Place → Instruction → Type 0
-IsInstructionServed cs at (instruction.Call i granted refused) = IsCallServed cs at i.call i.routine
+IsInstructionServed cs at (instruction.Call c granted refused) = IsCallServed cs at (roles c).call (roles c).routine
 IsInstructionServed cs at _ = Unit {0}

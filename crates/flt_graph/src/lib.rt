@@ -12,7 +12,7 @@ pub use flt_tree::{
     Action, ContextVariable, NumberVariable, OperationVariable, RemovedVariable, Status, Test, Tree,
 };
 pub use graph::{CallbackGraph, Graph, Point};
-pub use instruction::{Instruction, Invocation};
+pub use instruction::{Instruction, Invocation, ResolvedCall};
 pub use lowering::lower;
 pub use points::{
     callbacks_have_graphs, edges_lead_onwards, filters_have_graphs, instructions_are_served,

@@ -9,7 +9,7 @@ ghost use Rattle.flt_graph.specs.Lowering as spec;
 ghost use Rattle.flt_graph.specs.Points.{entry as entry_of, point_of};
 
 use crate::graph::{CallbackGraph, Graph, Point};
-use crate::instruction::{Instruction, fallible, plain};
+use crate::instruction::{Instruction, ResolvedCall, numbered};
 use flt_tree::{Callback, Condition, Span, Statement, Tree};
 use sqlite_items::Items;
 use std::alloc::{AllocError, Global};
@@ -93,7 +93,8 @@ fn push_statement(
     match statement {
         Statement::Act(span, action) => push_point(found, *span, Instruction::Act(*action, after)),
         Statement::Call(span, call) => {
-            push_point(found, *span, Instruction::Call(plain(*call), after, after))
+            let call = ResolvedCall::Plain(*call);
+            push_point(found, *span, Instruction::Call(call, after, after))
         }
         Statement::Return(span, status) => push_point(found, *span, Instruction::Return(*status)),
         Statement::If(span, condition, granted, refused) => {
@@ -105,7 +106,7 @@ fn push_statement(
                     push_point(found, *span, Instruction::Test(*test, yes, no))
                 }
                 Condition::Succeeds(call) => {
-                    let call = fallible(callbacks, call);
+                    let call = ResolvedCall::Fallible(numbered(callbacks, call));
                     push_point(found, *span, Instruction::Call(call, yes, no))
                 }
             }

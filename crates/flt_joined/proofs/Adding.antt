@@ -55,7 +55,8 @@ one_more_joined files first end old new before group added =
     }
 
 -- all of them
-pub all_joined : (files : List GivenFile) (first : ℕ) (j : JoinedTexts) → first ≡ length files → AreFirstJoined files first j → AreJoined files j
+pub all_joined : (files : List GivenFile) (first : ℕ) (j : JoinedTexts) → first ≡ length files →
+    AreFirstJoined files first j → AreJoined files j
 all_joined files first j end before =
     let none : drop first files ≡ [] = ap (λ n. drop n files) end ∙ drop_all files (length files) (omega arith) in
     let all : before.groups ≡ groups_of (givens files) =

@@ -138,7 +138,8 @@ module _ (g : Graph) (streams instances : Cells) (s : IsSettled g Stream streams
       (λ f. first_is granted failed m (given_is (spot callback point) true (given_at g callback point true) m there refl)
       (given_is (spot callback point) false (given_at g callback point false) m there refl) f) e
 
-  below_is : (callback n : ℕ) (m : MixedContext) → n ≤ points_at g callback → mixed_below g streams instances callback n ≡ Some m → IsMixed g m
+  below_is : (callback n : ℕ) (m : MixedContext) → n ≤ points_at g callback →
+      mixed_below g streams instances callback n ≡ Some m → IsMixed g m
   below_is callback zero m low e = absurd (nothing_mixed m e)
   below_is callback (suc n) m low e =
       first_is (mixed_below g streams instances callback n) (mixed_at g streams instances callback n) m

@@ -17,6 +17,7 @@ use Rattle.flt_tree.specs.declared.filter.Test.TheVariants as test
 use Rattle.flt_tree.specs.declared.variable.ContextVariable.{ContextVariable}
 use Rattle.flt_tree.specs.declared.variable.ContextVariable.TheVariants.{C0, C1, C2, C3, C4, C5, C6, C7, Arg}
 use Rattle.flt_graph.specs.Graph.{place_at, instruction_at}
+use Rattle.flt_graph.specs.Instruction.{roles}
 use Rattle.flt_graph.specs.Points.{successor}
 use Rattle.flt_graph.specs.declared.graph.CallbackGraph.{CallbackGraph}
 use Rattle.flt_graph.specs.declared.graph.Graph.{Graph}
@@ -69,7 +70,7 @@ keeps_in_test _ outcome v = true
 -- call, be that granted or not, and isn't found to be NULL
 abbrev pub keeps : Instruction → Bool → ContextVariable → Bool
 keeps (instruction.Act a next) outcome v = keeps_in_action a v
-keeps (instruction.Call i granted failed) outcome v = not (is_context v i.output)
+keeps (instruction.Call i granted failed) outcome v = not (is_context v (roles i).output)
 keeps (instruction.Test t granted refused) outcome v = keeps_in_test t outcome v
 keeps _ outcome v = true
 
@@ -136,7 +137,8 @@ passed_on _ = None
 -- contexts that a statement hands over
 unfoldable pub handed : Graph → ℕ → Instruction → List Flow
 handed g callback (instruction.Call i granted failed) =
-    from_named i.context (destinations g callback i granted i.call) ++ removed i.call callback granted i.output
+    from_named (roles i).context (destinations g callback (roles i) granted (roles i).call)
+    ++ removed (roles i).call callback granted (roles i).output
 handed g callback (instruction.Return status) =
     from_named (named_context status) (followed (passed_on (place_at g callback)) 0 g.callbacks)
 handed g callback _ = []

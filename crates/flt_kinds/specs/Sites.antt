@@ -6,6 +6,7 @@ use Rattle.flt_rules.specs.declared.call.Call.{Call}
 use Rattle.flt_rules.specs.declared.call.Call.TheVariants as call
 use Rattle.flt_tree.specs.declared.variable.ContextVariable.{ContextVariable}
 use Rattle.flt_graph.specs.Graph.{instruction_at}
+use Rattle.flt_graph.specs.Instruction.{roles}
 use Rattle.flt_graph.specs.declared.graph.Graph.{Graph}
 use Rattle.flt_graph.specs.declared.instruction.Instruction.{Instruction}
 use Rattle.flt_graph.specs.declared.instruction.Instruction.TheVariants as instruction
@@ -36,7 +37,7 @@ only_where false found = None
 
 -- the variable whose context an instruction sets on a stream, or on the instance, if it does
 abbrev pub set_by : Anchor → Instruction → Option ContextVariable
-set_by anchor (instruction.Call i granted failed) = only_where (is_set anchor i.call) i.context
+set_by anchor (instruction.Call i granted failed) = only_where (is_set anchor (roles i).call) (roles i).context
 set_by anchor _ = None
 
 unfoldable pub set_at : Graph → Anchor → ℕ → ℕ → Option ContextVariable
@@ -48,7 +49,8 @@ is_allocation _ = false
 
 -- where the context is that an instruction allocates, if it does
 abbrev pub begun_by : ℕ → Instruction → Option Slot
-begun_by callback (instruction.Call i granted failed) = only_where (is_allocation i.call) (in_variable (spot callback granted) i.output)
+begun_by callback (instruction.Call i granted failed) =
+    only_where (is_allocation (roles i).call) (in_variable (spot callback granted) (roles i).output)
 begun_by callback _ = None
 
 unfoldable pub begun_at : Graph → ℕ → ℕ → Option Slot
@@ -72,7 +74,7 @@ gives _ _ = None
 -- the stream's or the instance's context that an instruction gives, as it comes out, and where that is
 abbrev pub given_by : ℕ → Bool → Instruction → Option ContextSite
 given_by callback outcome (instruction.Call i granted failed) =
-    gives (giver i.call outcome) (in_variable (spot callback (side outcome granted failed)) i.output)
+    gives (giver (roles i).call outcome) (in_variable (spot callback (side outcome granted failed)) (roles i).output)
 given_by callback outcome _ = None
 
 unfoldable pub given_at : Graph → ℕ → ℕ → Bool → Option ContextSite

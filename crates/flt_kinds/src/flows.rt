@@ -66,7 +66,7 @@ fn keeps(instruction: &Instruction, outcome: bool, variable: ContextVariable) ->
 {
     match instruction {
         Instruction::Act(Action::ClearContext(cleared), _) => !same_context(variable, *cleared),
-        Instruction::Call(call, _, _) => !is_context(variable, call.output),
+        Instruction::Call(call, _, _) => !is_context(variable, call.roles().output),
         Instruction::Test(Test::ContextIsSome(tested), _, _) => {
             outcome || !same_context(variable, *tested)
         }
@@ -293,9 +293,10 @@ fn handed(
     let mut slots = Vec::new(alloc);
     match instruction {
         Instruction::Call(call, granted, _) => {
-            destinations(&mut slots, graph, callback, call, *granted)?;
+            let call = call.roles();
+            destinations(&mut slots, graph, callback, &call, *granted)?;
             lead_from(out, call.context, slots.as_slice())?;
-            remove(alloc, out, callback, call, *granted)
+            remove(alloc, out, callback, &call, *granted)
         }
         Instruction::Return(status) => {
             let kind = passed_on(graph.place(callback));

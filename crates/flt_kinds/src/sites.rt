@@ -53,7 +53,9 @@ pub(crate) fn set_at(
     ensures { result ≡ spec.set_at graph.now anchor callback point }
 {
     match graph.instruction_ref(callback, point) {
-        Instruction::Call(found, _, _) if is_set(anchor, found.call) => found.context,
+        Instruction::Call(found, _, _) if is_set(anchor, found.roles().call) => {
+            found.roles().context
+        }
         _ => None,
     }
 }
@@ -64,9 +66,13 @@ pub(crate) fn begun_at(graph: &Graph, callback: usize, point: usize) -> Option<S
     ensures { result ≡ spec.begun_at graph.now callback point }
 {
     match graph.instruction_ref(callback, point) {
-        Instruction::Call(found, granted, _) if matches!(found.call, Call::AllocateContext) => {
+        Instruction::Call(found, granted, _) => {
             let point = *granted;
-            in_variable(Spot { callback, point }, found.output)
+            let found = found.roles();
+            match found.call {
+                Call::AllocateContext => in_variable(Spot { callback, point }, found.output),
+                _ => None,
+            }
         }
         _ => None,
     }
@@ -105,6 +111,7 @@ pub(crate) fn given_at(
     match graph.instruction_ref(callback, point) {
         Instruction::Call(found, granted, failed) => {
             let point = if outcome { *granted } else { *failed };
+            let found = found.roles();
             let slot = in_variable(Spot { callback, point }, found.output);
             gives(giver(found.call, outcome), slot)
         }

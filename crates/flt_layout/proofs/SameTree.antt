@@ -7,16 +7,25 @@ use Rattle.flt_rules.specs.declared.call.LockNumber.{LockNumber}
 use Rattle.flt_syntax.specs.ActionGrammar as a
 use Rattle.flt_syntax.specs.ActionGrammar.{AtomAt, ExpressionAt, ActionAt, TestAt, ConditionAt}
 use Rattle.flt_syntax.specs.CallGrammar as c
-use Rattle.flt_syntax.specs.CallGrammar.{StatusAt, OptionalStatusAt, RoutineAt, LockAt, FallibleAt, PlainAt}
+use Rattle.flt_syntax.specs.CallGrammar.{StatusAt, OptionalStatusAt, RoutineAt, LockAt, SlotAt, SlotsAt, TailAt, FallibleAt, PlainAt}
 use Rattle.flt_syntax.specs.Cursor.{Input, kind, position, span, bytes_of, is_word}
 use Rattle.flt_syntax.specs.Grammar as g
 use Rattle.flt_syntax.specs.Grammar.{line, StatementAt, ElseAt, BlockAt, StatementsAt, HeadAt}
 use Rattle.flt_syntax.specs.Grammar.{CallbackAt, CallbacksAt, LocksAt, QueueAt, FileAt}
 use Rattle.flt_syntax.specs.Lex.{tokens}
 use Rattle.flt_syntax.specs.Scope.{Scope}
+use Rattle.flt_syntax.specs.Shape.{unfilled, fallible_of, plain_of}
 use Rattle.flt_syntax.specs.Spelling.{Spells}
 use Rattle.flt_syntax.specs.Words as w
 use Rattle.flt_syntax.specs.Words.{Next, Meant, NameAt, NumberAt, ContextAt, OptionalAt}
+use Rattle.flt_syntax.specs.declared.shape.FallibleShape.{FallibleShape}
+use Rattle.flt_syntax.specs.declared.shape.FallibleShape.TheVariants as shapes
+use Rattle.flt_syntax.specs.declared.shape.Operands.{Operands}
+use Rattle.flt_syntax.specs.declared.shape.PlainShape.{PlainShape}
+use Rattle.flt_syntax.specs.declared.shape.PlainShape.TheVariants as plain_shapes
+use Rattle.flt_syntax.specs.declared.shape.QueueCall.TheVariants as queued
+use Rattle.flt_syntax.specs.declared.shape.Slot.{Slot}
+use Rattle.flt_syntax.specs.declared.shape.Tail.{Tail}
 use Rattle.flt_syntax.specs.declared.token.Kind.{Kind}
 use Rattle.flt_syntax.specs.declared.token.Token.{Token}
 use Rattle.flt_syntax.specs.declared.token.Word.{Word}
@@ -35,7 +44,6 @@ use Rattle.flt_tree.specs.declared.filter.Position.{Position}
 use Rattle.flt_tree.specs.declared.filter.Routine.{Routine}
 use Rattle.flt_tree.specs.declared.filter.Statement.{Statement}
 use Rattle.flt_tree.specs.declared.filter.Statement.TheVariants.{Act, Call, Return, If, Repeat}
-use Rattle.flt_tree.specs.declared.filter.FallibleCall.TheVariants as calls
 use Rattle.flt_tree.specs.declared.filter.Condition.TheVariants as made
 use Rattle.flt_tree.specs.declared.filter.Status.{Status}
 use Rattle.flt_tree.specs.declared.filter.Test.{Test}
@@ -141,34 +149,72 @@ lock : {x y : Text} {locks : List Lock} {queue : Bool} {kd : LockKind} {m : Lock
     LockAt (scope x locks queue) kd i m o → Same x y i j → (p : Input) × LockAt (scope y locks queue) kd j m p × Same x y o p
 lock (c.lock a0 a1) s = let r1 = name a0 s in (r1.0, c.lock r1.1 a1, r1.2)
 
+-- operands that differ in where a routine's name stands alone
+data AlikeOperands : Operands → Operands → Type 0 where
+  alike : {u : Operands} {r : Routine} → u.routine.name ≡ r.name → AlikeOperands u (record u { routine = r })
+
+slot : {x y : Text} {locks : List Lock} {queue : Bool} {t : Slot} {u v m : Operands} {i o j : Input} →
+    SlotAt (scope x locks queue) t u i m o → AlikeOperands u v → Same x y i j →
+    (n : Operands) × (p : Input) × SlotAt (scope y locks queue) t v j n p × Same x y o p × AlikeOperands m n
+slot {v = v} (c.data_word b) h s = let r1 = next b s in (v, r1.0, c.data_word r1.1, r1.2, h)
+slot {v = v} (c.as_word b) h s = let r1 = next b s in (v, r1.0, c.as_word r1.1, r1.2, h)
+slot {v = v} (c.context_word b) h s = let r1 = next b s in (v, r1.0, c.context_word r1.1, r1.2, h)
+slot {v = v} (c.operation {d = d} b) (alike h) s = let r1 = meant b s in
+    (record v { operation = d }, r1.0, c.operation r1.1, r1.2, alike h)
+slot {v = v} (c.removed {v = d} b) (alike h) s = let r1 = meant b s in (record v { removed = d }, r1.0, c.removed r1.1, r1.2, alike h)
+slot {v = v} (c.existing {e = d} b) (alike h) s = let r1 = meant b s in (record v { existing = d }, r1.0, c.existing r1.1, r1.2, alike h)
+slot {v = v} (c.context {c = d} b) (alike h) s = let r1 = meant b s in (record v { context = d }, r1.0, c.context r1.1, r1.2, alike h)
+slot {v = v} (c.other {d = d} b q) (alike h) s = let r1 = meant b s in (record v { other = d }, r1.0, c.other r1.1 q, r1.2, alike h)
+slot {v = v} (c.routine_name b) (alike h) s = let r1 = routine b s in
+    (record v { routine = r1.0 }, r1.1, c.routine_name r1.2, r1.3, alike r1.4)
+slot {v = v} (c.lock_name {l = d} b) (alike h) s = let r1 = lock b s in (record v { lock = d }, r1.0, c.lock_name r1.1, r1.2, alike h)
+
+slots : {x y : Text} {locks : List Lock} {queue : Bool} {ts : List Slot} {u v m : Operands} {i o j : Input} →
+    SlotsAt (scope x locks queue) ts u i m o → AlikeOperands u v → Same x y i j →
+    (n : Operands) × (p : Input) × SlotsAt (scope y locks queue) ts v j n p × Same x y o p × AlikeOperands m n
+slots {v = v} {j = j} c.no_slots h s = (v, j, c.no_slots, s, h)
+slots (c.slot b0 b1) h s = let r1 = slot b0 h s in let r2 = slots b1 r1.4 r1.3 in (r2.0, r2.1, c.slot r1.2 r2.2, r2.3, r2.4)
+
+tail : {x y : Text} {t : Tail} {u v m : Operands} {i o j : Input} → TailAt t u i m o → AlikeOperands u v → Same x y i j →
+    (n : Operands) × (p : Input) × TailAt t v j n p × Same x y o p × AlikeOperands m n
+tail {v = v} {j = j} c.nothing h s = (v, j, c.nothing, s, h)
+tail {v = v} (c.with_context {c = d} b) (alike h) s = let r1 = optional b s in
+    (record v { optional = d }, r1.0, c.with_context r1.1, r1.2, alike h)
+tail {v = v} (c.old {c = d} b) (alike h) s = let r1 = optional b s in (record v { optional = d }, r1.0, c.old r1.1, r1.2, alike h)
+tail {v = v} (c.other_old {c = d} b q) (alike h) s = let r1 = optional b s in
+    (record v { optional = d }, r1.0, c.other_old r1.1 q, r1.2, alike h)
+tail {v = v} (c.status {s = d} b) (alike h) s = let r1 = status b s in (record v { status = d }, r1.0, c.status r1.1, r1.2, alike h)
+
+same_plain : (t : PlainShape) {u v : Operands} → AlikeOperands u v → plain_of t v ≡ plain_of t u
+same_plain (plain_shapes.End how) (alike h) = refl
+same_plain plain_shapes.Reference (alike h) = refl
+same_plain (plain_shapes.Lock call) (alike h) = refl
+same_plain plain_shapes.CompletePre (alike h) = refl
+same_plain plain_shapes.CompletePost (alike h) = refl
+
 plain : {x y : Text} {locks : List Lock} {queue : Bool} {m : PlainCall} {i o j : Input} → PlainAt (scope x locks queue) i m o →
     Same x y i j → (p : Input) × PlainAt (scope y locks queue) j m p × Same x y o p
-plain (c.end_context a0 a1) s = let r1 = meant a0 s in let r2 = meant a1 r1.2 in (r2.0, c.end_context r1.1 r2.1, r2.2)
-plain (c.reference a0 a1 a2 a3 a4) s = let r1 = meant a0 s in let r2 = meant a1 r1.2 in let r3 = next a2 r2.2 in
-    let r4 = meant a3 r3.2 in (r4.0, c.reference r1.1 r2.1 r3.1 r4.1 a4, r4.2)
-plain (c.lock_call a0 a1) s = let r1 = meant a0 s in let r2 = lock a1 r1.2 in (r2.0, c.lock_call r1.1 r2.1, r2.2)
-plain (c.complete_pre a0 a1 a2) s = let r1 = meant a0 s in let r2 = meant a1 r1.2 in
-    let r3 = status a2 r2.2 in (r3.0, c.complete_pre r1.1 r2.1 r3.1, r3.2)
-plain (c.complete_post a0 a1) s = let r1 = meant a0 s in let r2 = next a1 r1.2 in (r2.0, c.complete_post r1.1 r2.1, r2.2)
+plain {y = y} {locks = locks} {queue = queue} {j = j} (c.plain {s = t} a0 a1 a2) s =
+    let r1 = meant a0 s in let r2 = slots a1 (alike {u = unfilled} {r = unfilled.routine} refl) r1.2 in
+    let r3 = tail a2 r2.4 r2.3 in
+    (r3.1, subst (λ m. PlainAt (scope y locks queue) j m r3.1) (same_plain t r3.4) (c.plain r1.1 r2.2 r3.2), r3.3)
 
-fallible : {x y : Text} {locks : List Lock} {queue : Bool} {m : FallibleCall} {i o j : Input} →
+alike_fallible : (t : FallibleShape) {u v : Operands} → AlikeOperands u v → AlikeCall (fallible_of t u) (fallible_of t v)
+alike_fallible (shapes.Obtain source) (alike h) = l.same
+alike_fallible (shapes.Set anchor) (alike h) = l.same
+alike_fallible (shapes.Delete anchor) (alike h) = l.same
+alike_fallible (shapes.Queue queued.Insert) (alike h) = l.same
+alike_fallible (shapes.Queue queued.RemoveNext) (alike h) = l.same
+alike_fallible shapes.QueueDeferred (alike h) = l.deferred h
+alike_fallible shapes.QueueGeneric (alike h) = l.generic h
+
+fallible : {x y : Text} {locks : List Lock} {queue : Bool} {m : FallibleCall Routine} {i o j : Input} →
     FallibleAt (scope x locks queue) i m o → Same x y i j →
-    (n : FallibleCall) × (p : Input) × FallibleAt (scope y locks queue) j n p × Same x y o p × AlikeCall m n
-fallible {m = m} (c.obtain a0 a1) s = let r1 = meant a0 s in let r2 = meant a1 r1.2 in (m, r2.0, c.obtain r1.1 r2.1, r2.2, l.same)
-fallible {m = m} (c.set_context a0 a1 a2 a3 a4) s = let r1 = meant a0 s in let r2 = meant a1 r1.2 in let r3 = meant a2 r2.2 in
-    let r4 = optional a3 r3.2 in (m, r4.0, c.set_context r1.1 r2.1 r3.1 r4.1 a4, r4.2, l.same)
-fallible {m = m} (c.delete_context_of a0 a1) s = let r1 = meant a0 s in
-    let r2 = optional a1 r1.2 in (m, r2.0, c.delete_context_of r1.1 r2.1, r2.2, l.same)
-fallible {m = m} (c.insert_io a0 a1 a2 a3) s = let r1 = meant a1 s in let r2 = next a2 r1.2 in
-    let r3 = optional a3 r2.2 in (m, r3.0, c.insert_io a0 r1.1 r2.1 r3.1, r3.2, l.same)
-fallible {m = m} (c.remove_next_io a0 a1 a2 a3 a4) s = let r1 = meant a1 s in let r2 = meant a2 r1.2 in let r3 = next a3 r2.2 in
-    let r4 = meant a4 r3.2 in (m, r4.0, c.remove_next_io a0 r1.1 r2.1 r3.1 r4.1, r4.2, l.same)
-fallible (c.queue_deferred {c = v} a0 a1 a2 a3) s =
-    let r1 = meant a0 s in let r2 = next a1 r1.2 in let r3 = routine a2 r2.2 in let r4 = optional a3 r3.3 in
-    (calls.QueueDeferredIoWorkItem r3.0 v, r4.0, c.queue_deferred r1.1 r2.1 r3.2 r4.1, r4.2, l.deferred r3.4)
-fallible (c.queue_generic {c = v} a0 a1 a2) s =
-    let r1 = meant a0 s in let r2 = routine a1 r1.2 in let r3 = optional a2 r2.3 in
-    (calls.QueueGenericWorkItem r2.0 v, r3.0, c.queue_generic r1.1 r2.2 r3.1, r3.2, l.generic r2.4)
+    (n : FallibleCall Routine) × (p : Input) × FallibleAt (scope y locks queue) j n p × Same x y o p × AlikeCall m n
+fallible (c.fallible {s = t} a0 q a1 a2) s =
+    let r1 = meant a0 s in let r2 = slots a1 (alike {u = unfilled} {r = unfilled.routine} refl) r1.2 in
+    let r3 = tail a2 r2.4 r2.3 in
+    (fallible_of t r3.0, r3.1, c.fallible r1.1 q r2.2 r3.2, r3.3, alike_fallible t r3.4)
 
 condition : {x y : Text} {locks : List Lock} {queue : Bool} {m : Condition} {i o j : Input} →
     ConditionAt (scope x locks queue) i m o → Same x y i j →

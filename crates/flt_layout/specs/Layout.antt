@@ -1,7 +1,13 @@
 -- How items are laid out: which token begins a line follows from the kinds of the tokens before it. This project's own rule.
-use Rattle.std.specs.Prelude.{ℕ, ◌+◌, ◌-◌, Bool, true, false, not, ◌&&◌, ◌||◌, if◌then◌else◌, ◌==◌, List, [], ◌∷◌, ◌++◌}
+use Rattle.std.specs.Prelude.{ℕ, ◌+◌, ◌-◌, Bool, true, false, not, ◌&&◌, ◌||◌, if◌then◌else◌, ◌==◌, List, [], ◌∷◌, ◌++◌, is_some}
+use Rattle.std.specs.List.{position}
+use Rattle.std.specs.Option.{option_map_or}
 use Rattle.flt_tree.specs.Names.{Text}
 use Rattle.flt_print.specs.Line.{indentation}
+use Rattle.flt_syntax.specs.Shape.{slots_of}
+use Rattle.flt_syntax.specs.Tables.{plain_shape_of}
+use Rattle.flt_syntax.specs.declared.shape.Slot.{Slot}
+use Rattle.flt_syntax.specs.declared.shape.Slot.TheVariants as part
 use Rattle.flt_syntax.specs.declared.token.Kind.{Kind}
 use Rattle.flt_syntax.specs.declared.token.Kind.TheVariants as k
 use Rattle.flt_layout.specs.Items.{Item, a_token, a_comment, items}
@@ -33,19 +39,7 @@ is_first _ = false
 
 -- calls that are statements
 abbrev pub is_plain_call : Kind → Bool
-is_plain_call k.DeleteContext = true
-is_plain_call k.ReferenceContext = true
-is_plain_call k.ReleaseContext = true
-is_plain_call k.AcquireSpinLock = true
-is_plain_call k.ReleaseSpinLock = true
-is_plain_call k.AcquireFastMutex = true
-is_plain_call k.ReleaseFastMutex = true
-is_plain_call k.AcquirePushLock = true
-is_plain_call k.AcquirePushLockShared = true
-is_plain_call k.ReleasePushLock = true
-is_plain_call k.CompletePendedPreOperation = true
-is_plain_call k.CompletePendedPostOperation = true
-is_plain_call _ = false
+is_plain_call kind = is_some (plain_shape_of kind)
 
 -- variables that a statement may set
 abbrev pub is_set : Kind → Bool
@@ -76,49 +70,57 @@ is_set _ = false
 abbrev pub may_begin : Kind → Bool
 may_begin kind = is_first kind || (is_plain_call kind || is_set kind)
 
+-- words other than calls' that an operand, a call or a test follows
+abbrev pub is_followed : Kind → Bool
+is_followed k.Assign = true
+is_followed k.Equal = true
+is_followed k.NotEqual = true
+is_followed k.Less = true
+is_followed k.Plus = true
+is_followed k.Minus = true
+is_followed k.Value = true
+is_followed k.File = true
+is_followed k.If = true
+is_followed k.Context = true
+is_followed k.KeepIfExists = true
+is_followed k.ReplaceIfExists = true
+is_followed k.Old = true
+is_followed k.As = true
+is_followed _ = false
+
+-- whether the first slot of a call is a variable's
+abbrev pub takes_variable : List Slot → Bool
+takes_variable (part.Operation ∷ slots) = true
+takes_variable (part.Removed ∷ slots) = true
+takes_variable (part.Context ∷ slots) = true
+takes_variable _ = false
+
 -- what an operand, a call or a test follows, which begins nothing
 abbrev pub wants_more : Kind → Bool
-wants_more k.Assign = true
-wants_more k.Equal = true
-wants_more k.NotEqual = true
-wants_more k.Less = true
-wants_more k.Plus = true
-wants_more k.Minus = true
-wants_more k.Value = true
-wants_more k.File = true
-wants_more k.If = true
-wants_more k.Context = true
-wants_more k.AllocateContext = true
-wants_more k.GetStreamContext = true
-wants_more k.GetInstanceContext = true
-wants_more k.KeepIfExists = true
-wants_more k.ReplaceIfExists = true
-wants_more k.Old = true
-wants_more k.RemoveNextIo = true
-wants_more k.DeleteContext = true
-wants_more k.ReferenceContext = true
-wants_more k.As = true
-wants_more k.ReleaseContext = true
-wants_more k.CompletePendedPreOperation = true
-wants_more _ = false
+wants_more kind = is_followed kind || takes_variable (slots_of kind)
+
+-- how many words follow a word other than a call's whatever they are, the last of them a name
+abbrev pub names_declared : Kind → ℕ
+names_declared k.Filter = 1
+names_declared k.Lock = 2
+names_declared k.DeferredPre = 1
+names_declared k.DeferredPost = 1
+names_declared k.Generic = 1
+names_declared _ = 0
+
+-- whether a name fills a slot
+abbrev pub is_name : Slot → Bool
+is_name part.Routine = true
+is_name (part.Lock kind) = true
+is_name _ = false
+
+-- how many words behind the word of a call its name is, if it has one
+abbrev pub name_among : List Slot → ℕ
+name_among slots = option_map_or (λ at. at + 1) (position is_name slots) 0
 
 -- how many words follow a word whatever they are, the last of them a name
 abbrev pub names_after : Kind → ℕ
-names_after k.Filter = 1
-names_after k.Lock = 2
-names_after k.DeferredPre = 1
-names_after k.DeferredPost = 1
-names_after k.Generic = 1
-names_after k.QueueDeferredIoWorkItem = 2
-names_after k.QueueGenericWorkItem = 1
-names_after k.AcquireSpinLock = 1
-names_after k.ReleaseSpinLock = 1
-names_after k.AcquireFastMutex = 1
-names_after k.ReleaseFastMutex = 1
-names_after k.AcquirePushLock = 1
-names_after k.AcquirePushLockShared = 1
-names_after k.ReleasePushLock = 1
-names_after _ = 0
+names_after kind = if names_declared kind == 0 then name_among (slots_of kind) else names_declared kind
 
 -- the brace that begins a block
 abbrev pub opens : Kind → Bool

@@ -1,10 +1,11 @@
 //! The state after some items, which decides how the next one is laid.
 
 ghost use Rattle.flt_layout.specs.Layout as spec;
-ghost use Rattle.std.specs.Prelude.{◌≡◌, ◌<◌, ◌^◌, ◌++◌, OnOk};
+ghost use Rattle.std.specs.List.{position};
+ghost use Rattle.std.specs.Prelude.{◌≡◌, ◌<◌, ◌^◌, ◌++◌, length, MatchOption, OnOk};
 
 use crate::space::Space;
-use flt_syntax::Kind;
+use flt_syntax::{Kind, Slot, plain_shape_of, slots_of};
 use std::alloc::AllocError;
 
 /// The last item.
@@ -51,21 +52,7 @@ fn is_first(kind: Kind) -> bool
 fn is_plain_call(kind: Kind) -> bool
     ensures { result ≡ spec.is_plain_call kind }
 {
-    matches!(
-        kind,
-        Kind::DeleteContext
-            | Kind::ReferenceContext
-            | Kind::ReleaseContext
-            | Kind::AcquireSpinLock
-            | Kind::ReleaseSpinLock
-            | Kind::AcquireFastMutex
-            | Kind::ReleaseFastMutex
-            | Kind::AcquirePushLock
-            | Kind::AcquirePushLockShared
-            | Kind::ReleasePushLock
-            | Kind::CompletePendedPreOperation
-            | Kind::CompletePendedPostOperation
-    )
+    plain_shape_of(kind).is_some()
 }
 
 /// Variables that a statement may set.
@@ -105,9 +92,9 @@ fn may_begin(kind: Kind) -> bool
     is_first(kind) || is_plain_call(kind) || is_set(kind)
 }
 
-/// Words after which an operand, a call or a test follows, which begins no statement.
-fn wants_more(kind: Kind) -> bool
-    ensures { result ≡ spec.wants_more kind }
+/// Words other than calls' after which an operand, a call or a test follows, which begins no statement.
+fn is_followed(kind: Kind) -> bool
+    ensures { result ≡ spec.is_followed kind }
 {
     matches!(
         kind,
@@ -121,40 +108,71 @@ fn wants_more(kind: Kind) -> bool
             | Kind::File
             | Kind::If
             | Kind::Context
-            | Kind::AllocateContext
-            | Kind::GetStreamContext
-            | Kind::GetInstanceContext
             | Kind::KeepIfExists
             | Kind::ReplaceIfExists
             | Kind::Old
-            | Kind::RemoveNextIo
-            | Kind::DeleteContext
-            | Kind::ReferenceContext
             | Kind::As
-            | Kind::ReleaseContext
-            | Kind::CompletePendedPreOperation
     )
+}
+
+/// Whether the first slot of a call is a variable's.
+fn takes_variable(slots: &[Slot]) -> bool
+    ensures { result ≡ spec.takes_variable slots.now }
+{
+    matches!(slots, [Slot::Operation | Slot::Removed | Slot::Context, ..])
+}
+
+/// Words after which an operand, a call or a test follows, which begins no statement.
+fn wants_more(kind: Kind) -> bool
+    ensures { result ≡ spec.wants_more kind }
+{
+    is_followed(kind) || takes_variable(slots_of(kind))
+}
+
+/// The number of words that follow a word other than a call's whatever they are.
+fn names_declared(kind: Kind) -> usize
+    ensures { result ≡ spec.names_declared kind }
+{
+    match kind {
+        Kind::Filter | Kind::DeferredPre | Kind::DeferredPost | Kind::Generic => 1,
+        Kind::Lock => 2,
+        _ => 0,
+    }
+}
+
+fn is_name(slot: Slot) -> bool
+    ensures { result ≡ spec.is_name slot }
+{
+    matches!(slot, Slot::Routine | Slot::Lock(_))
+}
+
+/// The first slot that a name fills.
+fn named_slot(slots: &[Slot]) -> Option<usize>
+    ensures place { result ≡ position spec.is_name slots.now }
+    ensures within { MatchOption result (Unit {0}) (λ at. at < length slots.now) }
+{
+    slots.iter().position(|slot| is_name(*slot))
+}
+
+/// How many words after the word of a call its name is, if it has one.
+fn name_among(slots: &[Slot]) -> usize
+    ensures { result ≡ spec.name_among slots.now }
+{
+    match named_slot(slots) {
+        Some(at) => at + 1,
+        None => 0,
+    }
 }
 
 /// The number of words that follow a word whatever they are.
 fn names_after(kind: Kind) -> usize
     ensures { result ≡ spec.names_after kind }
 {
-    match kind {
-        Kind::Filter
-        | Kind::DeferredPre
-        | Kind::DeferredPost
-        | Kind::Generic
-        | Kind::QueueGenericWorkItem
-        | Kind::AcquireSpinLock
-        | Kind::ReleaseSpinLock
-        | Kind::AcquireFastMutex
-        | Kind::ReleaseFastMutex
-        | Kind::AcquirePushLock
-        | Kind::AcquirePushLockShared
-        | Kind::ReleasePushLock => 1,
-        Kind::Lock | Kind::QueueDeferredIoWorkItem => 2,
-        _ => 0,
+    let declared = names_declared(kind);
+    if declared == 0 {
+        name_among(slots_of(kind))
+    } else {
+        declared
     }
 }
 

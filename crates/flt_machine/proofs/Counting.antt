@@ -11,9 +11,11 @@ use Rattle.flt_model.specs.Effects.{after_unlink}
 use Rattle.flt_model.specs.Calls.{put_link}
 use Rattle.flt_model.specs.Moves.{other_entries}
 use Rattle.flt_model.specs.Settling as settling
-use Rattle.flt_model.specs.World.{Store, Context, Link, no_context, context_at, Detached, Detaching, is_freed, queue_at}
-use Rattle.flt_model.specs.World.{route_at, visit_at, with_context, with_link, with_route, add_reference, drop_reference}
-use Rattle.flt_ops.specs.Parts.{way_of}
+use Rattle.flt_model.specs.declared.settling.Way.{Way}
+use Rattle.flt_model.specs.declared.parts.Link.{Link}
+use Rattle.flt_model.specs.declared.parts.Presence.TheVariants.{Detaching, Detached}
+use Rattle.flt_model.specs.World.{Store, Context, no_context, context_at, is_freed, queue_at, route_at}
+use Rattle.flt_model.specs.World.{visit_at, with_context, with_link, with_route, add_reference, drop_reference}
 use Rattle.flt_machine_store.specs.Changes.{after_change, IsPossible}
 use Rattle.flt_machine_store.specs.declared.change.Change.{Change}
 use Rattle.flt_machine_store.specs.declared.change.Change.TheVariants as change
@@ -63,7 +65,7 @@ either_most : (n : ℕ) (b : Bool) (s t : Store) → AreAtMost n s → AreAtMost
 either_most n true s t one other = one
 either_most n false s t one other = other
 
-settled_most : (n : ℕ) (s : Store) (v : ℕ) (x : Option ℕ) (way : settling.Way) → AreAtMost n s → AreAtMost n (settling.settled_by s v x way)
+settled_most : (n : ℕ) (s : Store) (v : ℕ) (x : Option ℕ) (way : Way) → AreAtMost n s → AreAtMost n (settling.settled_by s v x way)
 settled_most n s v x way most =
     either_most n (settling.settles_visit way)
     (record (settling.lead s v x way) { settled = set (settling.lead s v x way).settled v true }) s
@@ -104,7 +106,7 @@ references_after n s (change.RemoveNext f) most = more n s most
 references_after n s (change.RemoveOf f o v) most = more n s most
 references_after n s (change.Queue f r v x) most = more n s most
 references_after n s (change.Start i) most = more n s most
-references_after n s (change.Settle v x way) most = more n (settling.settled_by s v x (way_of way)) (settled_most n s v x (way_of way) most)
+references_after n s (change.Settle v x way) most = more n (settling.settled_by s v x way) (settled_most n s v x way most)
 references_after n s (change.Arrive kind mode file) most = more n s most
 references_after n s (change.StartPre o f) most = more n s most
 references_after n s (change.Skip o f) most = more n s most
@@ -126,7 +128,7 @@ either_same : (n : ℕ) (b : Bool) (s t : Store) → length s.arrivals ≡ n →
 either_same n true s t one other = one
 either_same n false s t one other = other
 
-settled_same : (s : Store) (v : ℕ) (x : Option ℕ) (way : settling.Way) → length (settling.settled_by s v x way).arrivals ≡ length s.arrivals
+settled_same : (s : Store) (v : ℕ) (x : Option ℕ) (way : Way) → length (settling.settled_by s v x way).arrivals ≡ length s.arrivals
 settled_same s v x way =
     either_same (length s.arrivals) (settling.settles_visit way)
     (record (settling.lead s v x way) { settled = set (settling.lead s v x way).settled v true }) s
@@ -157,7 +159,7 @@ arrivals_after s (change.RemoveNext f) can few = few
 arrivals_after s (change.RemoveOf f o v) can few = few
 arrivals_after s (change.Queue f r v x) can few = few
 arrivals_after s (change.Start i) can few = few
-arrivals_after s (change.Settle v x way) can few = subst (λ (n : ℕ). n ≤ max_operations) (sym (settled_same s v x (way_of way))) few
+arrivals_after s (change.Settle v x way) can few = subst (λ (n : ℕ). n ≤ max_operations) (sym (settled_same s v x way)) few
 arrivals_after s (change.Arrive kind mode file) can few =
     omega (arith, can, length-append s.arrivals (record { kind = kind; mode = mode; file = file } ∷ []))
 arrivals_after s (change.StartPre o f) can few = few
@@ -175,7 +177,7 @@ either_items : (n : ℕ) (b : Bool) (s t : Store) → length s.items ≡ n → l
 either_items n true s t one other = one
 either_items n false s t one other = other
 
-settled_items : (s : Store) (v : ℕ) (x : Option ℕ) (way : settling.Way) → length (settling.settled_by s v x way).items ≡ length s.items
+settled_items : (s : Store) (v : ℕ) (x : Option ℕ) (way : Way) → length (settling.settled_by s v x way).items ≡ length s.items
 settled_items s v x way =
     either_items (length s.items) (settling.settles_visit way)
     (record (settling.lead s v x way) { settled = set (settling.lead s v x way).settled v true }) s
@@ -209,7 +211,7 @@ items_after s (change.RemoveOf f o v) = one_more _ _ refl
 items_after s (change.Queue f r v x) =
     omega (arith, length-append s.items (Some (record { filter = f; routine = r; visit = v; context = x }) ∷ []))
 items_after s (change.Start i) = one_more _ _ (length-set s.items i None)
-items_after s (change.Settle v x way) = one_more _ _ (settled_items s v x (way_of way))
+items_after s (change.Settle v x way) = one_more _ _ (settled_items s v x way)
 items_after s (change.Arrive kind mode file) = one_more _ _ refl
 items_after s (change.StartPre o f) = one_more _ _ refl
 items_after s (change.Skip o f) = one_more _ _ refl
@@ -230,7 +232,7 @@ either_queues : (b : Bool) (s t : Store) → HasQueues s → HasQueues t → Has
 either_queues true s t one other = one
 either_queues false s t one other = other
 
-settled_queues : (s : Store) (v : ℕ) (x : Option ℕ) (way : settling.Way) → HasQueues s → HasQueues (settling.settled_by s v x way)
+settled_queues : (s : Store) (v : ℕ) (x : Option ℕ) (way : Way) → HasQueues s → HasQueues (settling.settled_by s v x way)
 settled_queues s v x way has =
     either_queues (settling.settles_visit way)
     (record (settling.lead s v x way) { settled = set (settling.lead s v x way).settled v true }) s
@@ -259,7 +261,7 @@ queues_after s (change.RemoveNext f) has = length-set s.queues f (drop 1 (queue_
 queues_after s (change.RemoveOf f o v) has = length-set s.queues f (other_entries s o (queue_at s f)) ∙ has
 queues_after s (change.Queue f r v x) has = has
 queues_after s (change.Start i) has = has
-queues_after s (change.Settle v x way) has = settled_queues s v x (way_of way) has
+queues_after s (change.Settle v x way) has = settled_queues s v x way has
 queues_after s (change.Arrive kind mode file) has = has
 queues_after s (change.StartPre o f) has = has
 queues_after s (change.Skip o f) has = has

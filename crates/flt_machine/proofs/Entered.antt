@@ -11,7 +11,10 @@ use Rattle.std.specs.Prelude.{◌⊎◌, cond, find, is_some, nat_lt, option_map
 use Rattle.flt_model.specs.declared.subject.Subject.{Subject}
 use Rattle.flt_model.specs.declared.subject.Subject.TheVariants as subject
 use Rattle.flt_model.specs.Moves.{is_entry_of}
-use Rattle.flt_model.specs.World.{Store, Entry, Presence, Attached, Detaching, Detached, Route, is_attached, is_detaching}
+use Rattle.flt_model.specs.declared.parts.Entry.{Entry}
+use Rattle.flt_model.specs.declared.parts.Presence.{Presence}
+use Rattle.flt_model.specs.declared.parts.Presence.TheVariants.{Attached, Detaching, Detached}
+use Rattle.flt_model.specs.World.{Store, Route, is_attached, is_detaching}
 use Rattle.flt_model.specs.World.{no_route, presence_at, queue_at, route_at, visit_at, with_presence, with_queue}
 use Rattle.flt_ops.specs.Operating.{with_cancel}
 use Rattle.flt_machine.specs.Tickets.{passing, waits, comes_to_wait, entries_of, teardown_of, by_altitude}

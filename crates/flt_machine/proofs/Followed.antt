@@ -9,7 +9,12 @@ use Rattle.flt_model.specs.declared.subject.Subject.{Subject}
 use Rattle.flt_model.specs.declared.subject.Subject.TheVariants as subject
 use Rattle.flt_model.specs.Moves.{are_settled, carried_out, is_done, is_empty, is_up, with_arrival}
 use Rattle.flt_model.specs.Settling as settling
-use Rattle.flt_model.specs.World.{Store, Arrival, Position, Down, Visiting, Up, Route, no_route, route_at, visit_at, with_route}
+use Rattle.flt_model.specs.declared.settling.Way.{Way}
+use Rattle.flt_model.specs.declared.settling.Way.TheVariants.{Passes, Frames, Ends, Rises, Stays}
+use Rattle.flt_model.specs.declared.parts.Arrival.{Arrival}
+use Rattle.flt_model.specs.declared.parts.Position.{Position}
+use Rattle.flt_model.specs.declared.parts.Position.TheVariants.{Down, Visiting, Up}
+use Rattle.flt_model.specs.World.{Store, Route, no_route, route_at, visit_at, with_route}
 use Rattle.flt_ops.specs.Operating.{filter_in, is_below, past_filter, lowered}
 use Rattle.flt_machine.specs.Tickets.{newcomer, goes_on, is_left, lands, operations}
 use Rattle.flt_machine.proofs.Passing.{passing_none, passing_one, newcomer_none, newcomer_one}
@@ -133,7 +138,7 @@ module _ (s : Store) (o : ℕ) (is : is_below (length s.presences) (route_at s o
 
 -- ---- a visit is settled
 
-module _ (s : Store) (v : ℕ) (x : Option ℕ) (way : settling.Way) where
+module _ (s : Store) (v : ℕ) (x : Option ℕ) (way : Way) where
   abbrev led_store : Bool → Store
   led_store led = if led then with_route s (visit_at s v).operation
       (settling.led (visit_at s v).filter x way (route_at s (visit_at s v).operation)) else s
@@ -176,17 +181,17 @@ module _ (s : Store) (v : ℕ) (x : Option ℕ) (way : settling.Way) where
 
 -- by what its way leads to
 module _ (s : Store) (v : ℕ) (x : Option ℕ) (is : settling.is_led s v ≡ true) where
-  abbrev goes : settling.Way → Bool
+  abbrev goes : Way → Bool
   goes way = goes_on (route_at s (visit_at s v).operation).position
       (lands (visit_at s v).filter way (route_at s (visit_at s v).operation).position)
 
   abbrev spent : Bool
   spent = is_empty (route_at s (visit_at s v).operation).frames && are_settled (visit_at s v).operation s.visits (set s.settled v true)
 
-  abbrev over : settling.Way → Bool
+  abbrev over : Way → Bool
   over way = is_over (settled_store s v x way true true) (visit_at s v).operation (later s v x way)
 
-  follows : (way : settling.Way) (g o : Bool) → settling.settles_visit way ≡ true →
+  follows : (way : Way) (g o : Bool) → settling.settles_visit way ≡ true →
       goes_on (route_at s (visit_at s v).operation).position (later s v x way).position ≡ g → over way ≡ o →
       operations s (settling.settled_by s v x way) ≡ (if g && not o then subject.Operation (visit_at s v).operation ∷ [] else [])
   follows way true false settles hits misses = led_left s v x way is settles hits misses
@@ -194,26 +199,26 @@ module _ (s : Store) (v : ℕ) (x : Option ℕ) (is : settling.is_led s v ≡ tr
   follows way false o settles hits misses = led_stays s v x way is settles hits
 
   -- the operation that settling a visit leaves
-  pub settled_one : (way : settling.Way) (b : Bool) →
+  pub settled_one : (way : Way) (b : Bool) →
       (goes way && not (is_up (lands (visit_at s v).filter way (route_at s (visit_at s v).operation).position) && spent)) ≡ b →
       operations s (settling.settled_by s v x way) ≡ (if b then subject.Operation (visit_at s v).operation ∷ [] else [])
-  settled_one settling.Passes b same =
-      follows settling.Passes _ _ refl refl refl ∙ ap (λ (y : Bool). if y then subject.Operation (visit_at s v).operation ∷ [] else []) same
-  settled_one settling.Frames b same =
-      follows settling.Frames _ _ refl refl refl ∙ ap (λ (y : Bool). if y then subject.Operation (visit_at s v).operation ∷ [] else []) same
-  settled_one (settling.Ends outcome) b same =
-      follows (settling.Ends outcome) _ _ refl refl refl ∙
+  settled_one Passes b same =
+      follows Passes _ _ refl refl refl ∙ ap (λ (y : Bool). if y then subject.Operation (visit_at s v).operation ∷ [] else []) same
+  settled_one Frames b same =
+      follows Frames _ _ refl refl refl ∙ ap (λ (y : Bool). if y then subject.Operation (visit_at s v).operation ∷ [] else []) same
+  settled_one (Ends outcome) b same =
+      follows (Ends outcome) _ _ refl refl refl ∙
       ap (λ (y : Bool). if y then subject.Operation (visit_at s v).operation ∷ [] else []) same
-  settled_one settling.Rises b same =
-      follows settling.Rises _ _ refl refl refl ∙ ap (λ (y : Bool). if y then subject.Operation (visit_at s v).operation ∷ [] else []) same
-  settled_one settling.Stays b same =
-      not_settled s v x settling.Stays refl ∙
+  settled_one Rises b same =
+      follows Rises _ _ refl refl refl ∙ ap (λ (y : Bool). if y then subject.Operation (visit_at s v).operation ∷ [] else []) same
+  settled_one Stays b same =
+      not_settled s v x Stays refl ∙
       ap (λ (y : Bool). if y then subject.Operation (visit_at s v).operation ∷ [] else [])
       (ap (λ (y : Bool). y && not (is_up (route_at s (visit_at s v).operation).position && spent))
       (sym (stays (route_at s (visit_at s v).operation).position)) ∙ same)
 
 -- the same of what is read
-pub settled_read : (s : Store) (v : ℕ) (x : Option ℕ) (way : settling.Way) (o f : ℕ) (from : Position) (spent b : Bool) →
+pub settled_read : (s : Store) (v : ℕ) (x : Option ℕ) (way : Way) (o f : ℕ) (from : Position) (spent b : Bool) →
     settling.is_led s v ≡ true →
     o ≡ (visit_at s v).operation → f ≡ (visit_at s v).filter → from ≡ (route_at s o).position →
     spent ≡ (is_empty (route_at s o).frames && are_settled o s.visits (set s.settled v true)) →

@@ -24,9 +24,8 @@ use Rattle.flt_machine_frames.specs.declared.frame.Advanced.{Advanced}
 use Rattle.flt_machine_frames.specs.declared.loaded.Loaded.{Loaded}
 use Rattle.flt_machine_frames.specs.declared.standing.Standing.{Standing}
 use Rattle.flt_machine_calls.specs.Continuing.{leads_on}
-use Rattle.flt_machine_calls.specs.Decoding.{is_ending}
 use Rattle.flt_machine_calls.specs.Own.{AreOf, AreOwn}
-use Rattle.flt_machine_calls.specs.Plans.{IsPlanned, PlansStep, TakesNone, choice_at, is_end, remaining_by}
+use Rattle.flt_machine_calls.specs.Plans.{IsPlanned, PlansStep, TakesNone, choice_at, is_end, remaining_by, is_ending}
 use Rattle.flt_machine_calls.specs.declared.caller.Caller.{Caller}
 use Rattle.flt_machine_calls.specs.declared.plans.Plan.{Plan}
 use Rattle.flt_machine.specs.Blocking.{is_blocked}

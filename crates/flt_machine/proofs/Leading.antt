@@ -10,8 +10,8 @@ use Rattle.flt_model.specs.Steps.{board}
 use Rattle.flt_model.specs.World.{World, activation_at}
 use Rattle.flt_machine_frames.specs.Firsts.{Remains, RepeatsFirst}
 use Rattle.flt_machine_frames.specs.declared.standing.Standing.{Standing}
+use Rattle.flt_machine_calls.specs.Plans.{is_ending}
 use Rattle.flt_machine_calls.specs.Continuing.{leads_on}
-use Rattle.flt_machine_calls.specs.Decoding.{is_ending}
 
 abbrev nothing : Option Step
 nothing = None

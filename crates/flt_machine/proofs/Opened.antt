@@ -5,7 +5,10 @@ use Rattle.flt_tree.specs.declared.filter.Filter.{Filter}
 use Rattle.flt_model.specs.declared.event.Object.TheVariants.{Visit}
 use Rattle.flt_model.specs.Runs.{start}
 use Rattle.flt_model.specs.Trace.{gains, loses}
-use Rattle.flt_model.specs.World.{Entry, Holder, Presence, Attached}
+use Rattle.flt_model.specs.declared.parts.Entry.{Entry}
+use Rattle.flt_model.specs.declared.parts.Holder.{Holder}
+use Rattle.flt_model.specs.declared.parts.Presence.{Presence}
+use Rattle.flt_model.specs.declared.parts.Presence.TheVariants.{Attached}
 use Rattle.flt_machine_store.specs.Stores.{empty_store}
 use Rattle.flt_machine.specs.Situations.{IsAt, IsBoard, opening}
 

@@ -15,10 +15,11 @@ use Rattle.flt_model.specs.Effects.{Step, onward, after_unlink}
 use Rattle.flt_model.specs.Program.{callbacks_at, body_of}
 use Rattle.flt_model.specs.Runs.{Moment}
 use Rattle.flt_model.specs.Settling as settling
+use Rattle.flt_model.specs.declared.settling.Way.{Way}
 use Rattle.flt_model.specs.Trace.{gains, loses}
-use Rattle.flt_model.specs.World.{Store, Activation, Detached, Detaching, activation_at, actor_at, context_at}
-use Rattle.flt_model.specs.World.{is_freed, route_at, visit_at, with_context, with_route}
-use Rattle.flt_ops.specs.Parts.{way_of}
+use Rattle.flt_model.specs.declared.parts.Presence.TheVariants.{Detaching, Detached}
+use Rattle.flt_model.specs.World.{Store, Activation, activation_at, actor_at, context_at, is_freed, route_at}
+use Rattle.flt_model.specs.World.{visit_at, with_context, with_route}
 use Rattle.flt_machine_store.specs.Changes.{after_change}
 use Rattle.flt_machine_store.specs.declared.change.Change.{Change}
 use Rattle.flt_machine_store.specs.declared.change.Change.TheVariants as change
@@ -44,7 +45,7 @@ module _ (s : Store) where
   linked_over y None = refl
   linked_over y (Some d) = refl
 
-  settled_on : (v : ℕ) (x : Option ℕ) (way : settling.Way) → length (settling.settled_by s v x way).presences ≡ length s.presences
+  settled_on : (v : ℕ) (x : Option ℕ) (way : Way) → length (settling.settled_by s v x way).presences ≡ length s.presences
   settled_on v x way =
       either (length s.presences) (settling.settles_visit way)
       (record (settling.lead s v x way) { settled = set (settling.lead s v x way).settled v true }) s
@@ -72,7 +73,7 @@ module _ (s : Store) where
   filters_stay (change.RemoveOf f o v) = refl
   filters_stay (change.Queue f r v x) = refl
   filters_stay (change.Start i) = refl
-  filters_stay (change.Settle v x way) = settled_on v x (way_of way)
+  filters_stay (change.Settle v x way) = settled_on v x way
   filters_stay (change.Arrive kind mode file) = refl
   filters_stay (change.StartPre o f) = refl
   filters_stay (change.Skip o f) = refl

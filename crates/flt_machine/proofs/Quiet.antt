@@ -7,7 +7,10 @@ use Rattle.std.proofs.lemmas.List.{get_or-set_same, get_or-set_other, get_or_pas
 use Rattle.std.specs.List.{list_any, before_first, after_first, position_or_len}
 use Rattle.flt_model.specs.declared.subject.Subject.TheVariants as subject
 use Rattle.flt_model.specs.Moves.{is_done, is_entry_of, other_entries}
-use Rattle.flt_model.specs.World.{Store, Entry, Position, Down, Visiting, Up, Route, no_route}
+use Rattle.flt_model.specs.declared.parts.Entry.{Entry}
+use Rattle.flt_model.specs.declared.parts.Position.{Position}
+use Rattle.flt_model.specs.declared.parts.Position.TheVariants.{Down, Visiting, Up}
+use Rattle.flt_model.specs.World.{Store, Route, no_route}
 use Rattle.flt_model.specs.World.{is_detaching, presence_at, queue_at, route_at}
 use Rattle.flt_machine.specs.Tickets.{newcomer, goes_on, is_left, operations, waits, comes_to_wait, entries_of, teardown_of, by_altitude}
 use Rattle.flt_machine.proofs.Passing.{passing_none, newcomer_none, by_altitude_none}

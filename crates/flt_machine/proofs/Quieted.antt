@@ -13,10 +13,15 @@ use Rattle.flt_model.specs.Calls.{put_link}
 use Rattle.flt_model.specs.Effects.{after_unlink}
 use Rattle.flt_model.specs.Moves.{carried_out, is_entry_of, other_entries, without_last, other_frames}
 use Rattle.flt_model.specs.Settling as settling
-use Rattle.flt_model.specs.World.{Store, Arrival, Context, Down, Entry, Presence, Route, Visiting, Detached, context_at, is_detaching}
+use Rattle.flt_model.specs.declared.settling.Way.{Way}
+use Rattle.flt_model.specs.declared.settling.Way.TheVariants.{Passes, Frames, Ends, Rises, Stays}
+use Rattle.flt_model.specs.declared.parts.Arrival.{Arrival}
+use Rattle.flt_model.specs.declared.parts.Entry.{Entry}
+use Rattle.flt_model.specs.declared.parts.Position.TheVariants.{Down, Visiting}
+use Rattle.flt_model.specs.declared.parts.Presence.{Presence}
+use Rattle.flt_model.specs.declared.parts.Presence.TheVariants.{Detached}
+use Rattle.flt_model.specs.World.{Store, Context, Route, context_at, is_detaching}
 use Rattle.flt_model.specs.World.{is_freed, no_route, presence_at, queue_at, route_at, visit_at, with_context, with_route}
-use Rattle.flt_ops.specs.declared.parts.Way.{Way}
-use Rattle.flt_ops.specs.Parts.{way_of}
 use Rattle.flt_machine_store.specs.Changes.{after_change}
 use Rattle.flt_machine_store.specs.declared.change.Change.{Change}
 use Rattle.flt_machine_store.specs.declared.change.Change.TheVariants as change
@@ -137,10 +142,10 @@ quiet_items s (change.Start i) queues =
     newcomer_none subject.Item (length s.items) (length (after_change s (change.Start i)).items) (length-set s.items i None)
 quiet_items s (change.Settle v x way) queues =
     newcomer_none subject.Item (length s.items) (length (after_change s (change.Settle v x way)).items)
-    (either (λ (t : Store). length t.items ≡ length s.items) (settling.settles_visit (way_of way))
-    (record (settling.lead s v x (way_of way)) { settled = set (settling.lead s v x (way_of way)).settled v true }) s
+    (either (λ (t : Store). length t.items ≡ length s.items) (settling.settles_visit way)
+    (record (settling.lead s v x way) { settled = set (settling.lead s v x way).settled v true }) s
     (either (λ (t : Store). length t.items ≡ length s.items) (settling.is_led s v) (with_route s (visit_at s v).operation
-    (settling.led (visit_at s v).filter x (way_of way) (route_at s (visit_at s v).operation))) s refl refl) refl)
+    (settling.led (visit_at s v).filter x way (route_at s (visit_at s v).operation))) s refl refl) refl)
 quiet_items s (change.Arrive kind mode file) queues =
     newcomer_none subject.Item (length s.items) (length (after_change s (change.Arrive kind mode file)).items) refl
 quiet_items s (change.StartPre o f) queues =
@@ -164,15 +169,15 @@ uncancelled s o k r so =
     at_set (λ (x : Route). x.cancelled ≡ true → (route_at s k).cancelled ≡ true) s.routes o k r no_route
     (λ same is. ap (λ (j : ℕ). (route_at s j).cancelled) same ∙ so is) (λ is. is)
 
-led_cancelled : (f : ℕ) (x : Option ℕ) (way : settling.Way) (r : Route) → (settling.led f x way r).cancelled ≡ r.cancelled
-led_cancelled f x settling.Passes r = refl
-led_cancelled f x settling.Frames r = refl
-led_cancelled f x (settling.Ends outcome) r = refl
-led_cancelled f x settling.Rises r = refl
-led_cancelled f x settling.Stays r = refl
+led_cancelled : (f : ℕ) (x : Option ℕ) (way : Way) (r : Route) → (settling.led f x way r).cancelled ≡ r.cancelled
+led_cancelled f x Passes r = refl
+led_cancelled f x Frames r = refl
+led_cancelled f x (Ends outcome) r = refl
+led_cancelled f x Rises r = refl
+led_cancelled f x Stays r = refl
 
 -- the routes after a visit is settled
-settled_cancelled : (s : Store) (v k : ℕ) (x : Option ℕ) (way : settling.Way) →
+settled_cancelled : (s : Store) (v k : ℕ) (x : Option ℕ) (way : Way) →
     (route_at (settling.settled_by s v x way) k).cancelled ≡ true → (route_at s k).cancelled ≡ true
 settled_cancelled s v k x way =
     either (λ (t : Store). (route_at t k).cancelled ≡ true → (route_at s k).cancelled ≡ true) (settling.settles_visit way)
@@ -182,7 +187,7 @@ settled_cancelled s v k x way =
     (uncancelled s (visit_at s v).operation k (settling.led (visit_at s v).filter x way (route_at s (visit_at s v).operation))
     (λ is. sym (led_cancelled (visit_at s v).filter x way (route_at s (visit_at s v).operation)) ∙ is)) (λ is. is)) (λ is. is)
 
-settled_presences : (s : Store) (v : ℕ) (x : Option ℕ) (way : settling.Way) → (settling.settled_by s v x way).presences ≡ s.presences
+settled_presences : (s : Store) (v : ℕ) (x : Option ℕ) (way : Way) → (settling.settled_by s v x way).presences ≡ s.presences
 settled_presences s v x way =
     either (λ (t : Store). t.presences ≡ s.presences) (settling.settles_visit way)
     (record (settling.lead s v x way) { settled = set (settling.lead s v x way).settled v true }) s
@@ -190,7 +195,7 @@ settled_presences s v x way =
     (with_route s (visit_at s v).operation (settling.led (visit_at s v).filter x way (route_at s (visit_at s v).operation))) s
     refl refl) refl
 
-settled_queues : (s : Store) (v : ℕ) (x : Option ℕ) (way : settling.Way) → (settling.settled_by s v x way).queues ≡ s.queues
+settled_queues : (s : Store) (v : ℕ) (x : Option ℕ) (way : Way) → (settling.settled_by s v x way).queues ≡ s.queues
 settled_queues s v x way =
     either (λ (t : Store). t.queues ≡ s.queues) (settling.settles_visit way)
     (record (settling.lead s v x way) { settled = set (settling.lead s v x way).settled v true }) s
@@ -262,9 +267,9 @@ quiet_entries s (change.Queue f r v x) altitudes cancels inserts detaches =
 quiet_entries s (change.Start i) altitudes cancels inserts detaches =
     same_entries s (after_change s (change.Start i)) altitudes (λ o is. is) (λ f is. is) (λ f o is. is)
 quiet_entries s (change.Settle v x way) altitudes cancels inserts detaches =
-    same_entries s (after_change s (change.Settle v x way)) altitudes (λ k. settled_cancelled s v k x (way_of way))
-    (λ f is. ap (λ (l : List Presence). is_detaching (get_or l f Detached)) (sym (settled_presences s v x (way_of way))) ∙ is)
-    (λ f k is. ap (λ (l : List (List Entry)). list_any (is_entry_of s k) (get_or l f [])) (sym (settled_queues s v x (way_of way))) ∙ is)
+    same_entries s (after_change s (change.Settle v x way)) altitudes (λ k. settled_cancelled s v k x way)
+    (λ f is. ap (λ (l : List Presence). is_detaching (get_or l f Detached)) (sym (settled_presences s v x way)) ∙ is)
+    (λ f k is. ap (λ (l : List (List Entry)). list_any (is_entry_of s k) (get_or l f [])) (sym (settled_queues s v x way)) ∙ is)
 quiet_entries s (change.Arrive kind mode file) altitudes cancels inserts detaches =
     same_entries s (after_change s (change.Arrive kind mode file)) altitudes (λ k. arriving s.routes
     (record { position = Down 0; frames = []; cancelled = false; outcome = None }) k refl) (λ f is. is) (λ f k is. is)
@@ -319,7 +324,7 @@ quiet_teardown s (change.Queue f r v x) altitudes detaches = no_teardown s (afte
 quiet_teardown s (change.Start i) altitudes detaches = no_teardown s (after_change s (change.Start i)) altitudes (λ g is. is)
 quiet_teardown s (change.Settle v x way) altitudes detaches =
     no_teardown s (after_change s (change.Settle v x way)) altitudes
-    (λ f is. ap (λ (l : List Presence). is_detaching (get_or l f Detached)) (sym (settled_presences s v x (way_of way))) ∙ is)
+    (λ f is. ap (λ (l : List Presence). is_detaching (get_or l f Detached)) (sym (settled_presences s v x way)) ∙ is)
 quiet_teardown s (change.Arrive kind mode file) altitudes detaches =
     no_teardown s (after_change s (change.Arrive kind mode file)) altitudes (λ g is. is)
 quiet_teardown s (change.StartPre o f) altitudes detaches = no_teardown s (after_change s (change.StartPre o f)) altitudes (λ g is. is)

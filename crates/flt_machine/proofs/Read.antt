@@ -1,19 +1,21 @@
 -- What the code reads of an instruction is what the statements that remain say.
 use Rattle.std.proofs.Common.{◌≡◌, ℕ, Bool, true, false, not, ◌||◌, if◌then◌else◌, List, ◌∷◌, ap, sym, refl, ◌∙◌, inl, inr}
 use Rattle.flt_rules.specs.declared.held.Access.TheVariants.{Exclusive, Shared}
+use Rattle.flt_tree.specs.Registered.{numbered}
 use Rattle.flt_tree.specs.declared.filter.Callback.{Callback}
 use Rattle.flt_tree.specs.declared.filter.Condition.TheVariants as condition
 use Rattle.flt_tree.specs.declared.filter.FallibleCall.{FallibleCall}
 use Rattle.flt_tree.specs.declared.filter.FallibleCall.TheVariants as fallible
 use Rattle.flt_tree.specs.declared.filter.PlainCall.{PlainCall}
 use Rattle.flt_tree.specs.declared.filter.PlainCall.TheVariants as plain
+use Rattle.flt_tree.specs.declared.filter.Routine.{Routine}
 use Rattle.flt_tree.specs.declared.filter.Span.{Span}
 use Rattle.flt_tree.specs.declared.filter.Statement.{Statement, out-Statement}
 use Rattle.flt_tree.specs.declared.filter.Statement.TheOpen.{Statement-F}
-use Rattle.flt_graph.specs.Instruction as invocation
 use Rattle.flt_graph.specs.declared.instruction.Instruction.{Instruction}
 use Rattle.flt_graph.specs.declared.instruction.Instruction.TheVariants as instruction
-use Rattle.flt_graph.specs.declared.instruction.Invocation.{Invocation}
+use Rattle.flt_graph.specs.declared.instruction.ResolvedCall.{ResolvedCall}
+use Rattle.flt_graph.specs.declared.instruction.ResolvedCall.TheVariants as resolved
 use Rattle.flt_machine_frames.specs.Firsts.{Remains}
 use Rattle.flt_machine_frames.specs.declared.standing.Standing.{Standing}
 use Rattle.flt_model.specs.Locks.{holders_of, is_free_for}
@@ -27,7 +29,7 @@ use Rattle.flt_machine.specs.Calls.{is_refused_lock, leaves_choice_at}
 
 module _ (w : World) (c : Caller) (filter_is : (actor_at w c.activation).filter ≡ c.filter) where
   call_refused : (span : Span) (x : PlainCall) (granted refused : ℕ) →
-      is_refused_lock w.store c (instruction.Call (invocation.plain x) granted refused) ≡
+      is_refused_lock w.store c (instruction.Call (resolved.Plain x) granted refused) ≡
       is_blocked_by w c.activation (Statement-F.Call span x)
   call_refused span (plain.DeleteContext d) granted refused = refl
   call_refused span (plain.ReferenceContext d e) granted refused = refl
@@ -40,8 +42,8 @@ module _ (w : World) (c : Caller) (filter_is : (actor_at w c.activation).filter 
   call_refused span (plain.CompletePendedPreOperation d st) granted refused = refl
   call_refused span plain.CompletePendedPostOperation granted refused = refl
 
-  asked_refused : (cs : List Callback) (x : FallibleCall) (granted refused : ℕ) →
-      is_refused_lock w.store c (instruction.Call (invocation.fallible cs x) granted refused) ≡ false
+  asked_refused : (cs : List Callback) (x : FallibleCall Routine) (granted refused : ℕ) →
+      is_refused_lock w.store c (instruction.Call (resolved.Fallible (numbered cs x)) granted refused) ≡ false
   asked_refused cs (fallible.AllocateContext d) granted refused = refl
   asked_refused cs (fallible.GetContext on d) granted refused = refl
   asked_refused cs (fallible.SetContext on existing d old) granted refused = refl
@@ -62,11 +64,11 @@ module _ (w : World) (c : Caller) (filter_is : (actor_at w c.activation).filter 
       is_refused_lock w.store c i ≡ is_blocked w c.activation rest
   refused_is cs s rest (instruction.Act x on) r = sym (by_first rest r.later r.first (Statement-F.Act r.span x) r.rest_is r.text)
   refused_is cs s rest (instruction.Call made granted refused) (inl r) =
-      ap (λ (k : Invocation). is_refused_lock w.store c (instruction.Call k granted refused)) r.made_is ∙
+      ap (λ (k : ResolvedCall). is_refused_lock w.store c (instruction.Call k granted refused)) r.made_is ∙
       call_refused r.span r.call granted refused ∙
       sym (by_first rest r.later r.first (Statement-F.Call r.span r.call) r.rest_is r.text)
   refused_is cs s rest (instruction.Call made granted refused) (inr r) =
-      ap (λ (k : Invocation). is_refused_lock w.store c (instruction.Call k granted refused)) r.made_is ∙
+      ap (λ (k : ResolvedCall). is_refused_lock w.store c (instruction.Call k granted refused)) r.made_is ∙
       asked_refused cs r.call granted refused ∙
       sym (by_first rest r.later r.first
       (Statement-F.If r.span (condition.Succeeds r.call) r.granted_block r.refused_block) r.rest_is r.text)
@@ -79,7 +81,7 @@ module _ (w : World) (c : Caller) (filter_is : (actor_at w c.activation).filter 
 
 -- ---- the choice
 
-call_choice : (x : PlainCall) (granted refused : ℕ) → leaves_choice_at (instruction.Call (invocation.plain x) granted refused) ≡ false
+call_choice : (x : PlainCall) (granted refused : ℕ) → leaves_choice_at (instruction.Call (resolved.Plain x) granted refused) ≡ false
 call_choice (plain.DeleteContext d) granted refused = refl
 call_choice (plain.ReferenceContext d e) granted refused = refl
 call_choice (plain.ReleaseContext d) granted refused = refl
@@ -89,8 +91,8 @@ call_choice (plain.ReleaseLock k l) granted refused = refl
 call_choice (plain.CompletePendedPreOperation d st) granted refused = refl
 call_choice plain.CompletePendedPostOperation granted refused = refl
 
-asked_choice : (cs : List Callback) (x : FallibleCall) (granted refused : ℕ) (span : Span) (holds fails : List Statement) →
-    leaves_choice_at (instruction.Call (invocation.fallible cs x) granted refused) ≡
+asked_choice : (cs : List Callback) (x : FallibleCall Routine) (granted refused : ℕ) (span : Span) (holds fails : List Statement) →
+    leaves_choice_at (instruction.Call (resolved.Fallible (numbered cs x)) granted refused) ≡
     leaves_choice_by (Statement-F.If span (condition.Succeeds x) holds fails)
 asked_choice cs (fallible.AllocateContext d) granted refused span holds fails = refl
 asked_choice cs (fallible.GetContext on d) granted refused span holds fails = refl
@@ -111,10 +113,10 @@ begins_is : (cs : List Callback) (s : Standing) (rest : List Statement) (i : Ins
     Remains cs s rest i → leaves_choice_at i ≡ begins_with_choice rest
 begins_is cs s rest (instruction.Act x on) r = sym (begins_by rest r.later r.first (Statement-F.Act r.span x) r.rest_is r.text)
 begins_is cs s rest (instruction.Call made granted refused) (inl r) =
-    ap (λ (k : Invocation). leaves_choice_at (instruction.Call k granted refused)) r.made_is ∙ call_choice r.call granted refused ∙
+    ap (λ (k : ResolvedCall). leaves_choice_at (instruction.Call k granted refused)) r.made_is ∙ call_choice r.call granted refused ∙
     sym (begins_by rest r.later r.first (Statement-F.Call r.span r.call) r.rest_is r.text)
 begins_is cs s rest (instruction.Call made granted refused) (inr r) =
-    ap (λ (k : Invocation). leaves_choice_at (instruction.Call k granted refused)) r.made_is ∙
+    ap (λ (k : ResolvedCall). leaves_choice_at (instruction.Call k granted refused)) r.made_is ∙
     asked_choice cs r.call granted refused r.span r.granted_block r.refused_block ∙
     sym (begins_by rest r.later r.first
     (Statement-F.If r.span (condition.Succeeds r.call) r.granted_block r.refused_block) r.rest_is r.text)

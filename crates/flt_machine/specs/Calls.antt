@@ -20,6 +20,7 @@ use Rattle.flt_model.specs.declared.event.Event.{Event}
 use Rattle.flt_model.specs.declared.moves.JournalEntry.TheVariants.{Go}
 use Rattle.flt_model.specs.declared.moves.Move.{Move}
 use Rattle.flt_model.specs.declared.moves.Move.TheVariants.{Arrive}
+use Rattle.flt_graph.specs.Instruction.{roles}
 use Rattle.flt_graph.specs.declared.instruction.Instruction.{Instruction}
 use Rattle.flt_graph.specs.declared.instruction.Instruction.TheVariants as instruction
 use Rattle.flt_model.specs.Effects.{Step}
@@ -133,7 +134,7 @@ refuses s c _ _ = false
 
 -- the same of an instruction
 abbrev pub is_refused_lock : Store → Caller → Instruction → Bool
-is_refused_lock s c (instruction.Call made granted refused) = refuses s c made.lock (access_of made.call)
+is_refused_lock s c (instruction.Call made granted refused) = refuses s c (roles made).lock (access_of (roles made).call)
 is_refused_lock s c _ = false
 
 -- whether an instruction is a call that the system may refuse
@@ -144,5 +145,5 @@ leaves_choice_of call.QueueGenericWorkItem = true
 leaves_choice_of _ = false
 
 abbrev pub leaves_choice_at : Instruction → Bool
-leaves_choice_at (instruction.Call made granted refused) = leaves_choice_of made.call
+leaves_choice_at (instruction.Call made granted refused) = leaves_choice_of (roles made).call
 leaves_choice_at _ = false

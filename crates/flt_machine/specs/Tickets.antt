@@ -7,8 +7,11 @@ use Rattle.flt_model.specs.declared.subject.Subject.{Subject}
 use Rattle.flt_model.specs.declared.subject.Subject.TheVariants as subject
 use Rattle.flt_model.specs.Effects.{Step}
 use Rattle.flt_model.specs.Moves.{is_done, is_entry_of}
-use Rattle.flt_model.specs.Settling.{Way, Passes, Frames, Ends, Rises, Stays}
-use Rattle.flt_model.specs.World.{World, Store, Position, Down, Visiting, Up, is_detaching, presence_at, queue_at, route_at}
+use Rattle.flt_model.specs.declared.settling.Way.{Way}
+use Rattle.flt_model.specs.declared.settling.Way.TheVariants.{Passes, Frames, Ends, Rises, Stays}
+use Rattle.flt_model.specs.declared.parts.Position.{Position}
+use Rattle.flt_model.specs.declared.parts.Position.TheVariants.{Down, Visiting, Up}
+use Rattle.flt_model.specs.World.{World, Store, is_detaching, presence_at, queue_at, route_at}
 
 -- ---- numbers
 

@@ -15,7 +15,6 @@ ghost use Rattle.flt_model.specs.Moves.{make};
 ghost use Rattle.flt_model.specs.Program.{callbacks_at};
 ghost use Rattle.flt_model.specs.Runs.{Moment};
 ghost use Rattle.flt_model.specs.World as machine;
-ghost use Rattle.flt_ops.specs.Parts.{outcome_of};
 ghost use Rattle.flt_rules.specs.Limits.{max_cost, max_operations};
 ghost use Rattle.flt_tree.specs.declared.filter.Filter.{Filter};
 
@@ -25,8 +24,8 @@ use crate::kept::StoredStanding;
 use counted_heap::Heap;
 use flt_costs::journals_stay_within_costs;
 use flt_machine_frames::{Frame, Loaded, Standing};
-use flt_machine_store::{Outcome, Store};
-use flt_model::{Journal, Move};
+use flt_machine_store::Store;
+use flt_model::{Journal, Move, Outcome};
 use flt_rules::{MAX_ENTRIES, Place};
 use std::alloc::AllocError;
 use std::marker::Model;
@@ -150,7 +149,7 @@ impl Board {
 
     /// How an operation ended at its lowest point, from the moment at which it goes up.
     pub fn outcome(&self, serial: u32) -> Option<Outcome>
-        ensures { option_map outcome_of result ≡ (machine.route_at self.now.store serial).outcome }
+        ensures { result ≡ (machine.route_at self.now.store serial).outcome }
     {
         self.store.outcome(serial)
     }

@@ -137,10 +137,11 @@ impl Board {
         let Instruction::Call(made, _, _) = instruction else {
             return false;
         };
-        let Some(lock) = made.lock else {
+        let roles = made.roles();
+        let Some(lock) = roles.lock else {
             return false;
         };
-        let access = match made.call {
+        let access = match roles.call {
             Call::AcquireLock(_) => Access::Exclusive,
             Call::AcquirePushLockShared => Access::Shared,
             _ => return false,
@@ -288,7 +289,7 @@ fn leaves_choice(instruction: Instruction) -> bool
 {
     match instruction {
         Instruction::Call(made, _, _) => matches!(
-            made.call,
+            made.roles().call,
             Call::AllocateContext | Call::QueueDeferredIoWorkItem | Call::QueueGenericWorkItem
         ),
         _ => false,

@@ -21,6 +21,6 @@ pub use events::Events;
 pub use fault::ApplyFault;
 pub use flt_machine_frames::{Advanced, Frame, Loaded, LoadedFault, advance};
 /// How an operation ended at its lowest point.
-pub use flt_machine_store::Outcome;
+pub use flt_model::Outcome;
 /// The answer of a call that was refused memory.
 pub use std::alloc::AllocError as OutOfMemory;

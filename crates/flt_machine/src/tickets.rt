@@ -7,16 +7,16 @@ ghost use Rattle.std.specs.List.{list_any};
 ghost use Rattle.flt_machine.specs.Tickets as spec;
 ghost use Rattle.flt_model.specs.Moves.{is_entry_of, is_up};
 ghost use Rattle.flt_model.specs.World as machine;
+ghost use Rattle.flt_model.specs.declared.parts.Position.TheVariants.{Down, Up};
 ghost use Rattle.flt_model.specs.declared.subject.Subject.TheVariants as subject;
-ghost use Rattle.flt_ops.specs.Parts.{position_of, way_of};
 ghost use Rattle.flt_machine_store.specs.Changes.{after_change, cancels_entries, IsPossible};
 ghost use Rattle.flt_machine_store.specs.declared.change.Change.TheVariants as change;
 ghost use Rattle.flt_rules.specs.Limits.{max_entries, max_operations};
 
 use counted_heap::Heap;
 use flt_machine_frames::Loaded;
-use flt_machine_store::{Change, Position, Store, Way};
-use flt_model::Subject;
+use flt_machine_store::{Change, Store};
+use flt_model::{Position, Subject, Way};
 use std::alloc::AllocError;
 
 /// The subjects that get a ticket by a change of the store, with the activation that starts or hasn't ended.
@@ -113,8 +113,8 @@ fn settled_operation(store: &Store, visit: usize, way: Way) -> Option<Subject>
 
 /// Whether an operation at a position moves on by this `Way` from a filter without being done: it is done once it is up and spent.
 fn leads_on(from: Position, filter: usize, way: Way, spent: bool) -> bool
-    ensures { result ≡ (spec.goes_on (position_of from) (spec.lands filter (way_of way) (position_of from))
-        && not (is_up (spec.lands filter (way_of way) (position_of from)) && spent)) }
+    ensures { result ≡ (spec.goes_on from (spec.lands filter way from)
+        && not (is_up (spec.lands filter way from) && spent)) }
 {
     match way {
         Way::Passes => goes_below(from, filter),
@@ -127,7 +127,7 @@ fn leads_on(from: Position, filter: usize, way: Way, spent: bool) -> bool
 
 /// Whether an operation at a position would move on below a filter.
 fn goes_below(from: Position, filter: usize) -> bool
-    ensures { result ≡ spec.goes_on (position_of from) (machine.Down (filter + 1)) }
+    ensures { result ≡ spec.goes_on from (Down (filter + 1)) }
 {
     match from {
         Position::Down(from) => from == 0 || from - 1 != filter,
@@ -138,7 +138,7 @@ fn goes_below(from: Position, filter: usize) -> bool
 
 /// Whether an operation at a position would move on by going up.
 fn goes_up(from: Position) -> bool
-    ensures { result ≡ spec.goes_on (position_of from) machine.Up }
+    ensures { result ≡ spec.goes_on from Up }
 {
     !matches!(from, Position::Up)
 }

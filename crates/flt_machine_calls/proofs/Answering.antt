@@ -12,7 +12,8 @@ use Rattle.flt_model.specs.declared.event.Event.TheVariants as event
 use Rattle.flt_model.specs.declared.event.Object.{Object}
 use Rattle.flt_model.specs.Effects.{Step, uses, empties, calling}
 use Rattle.flt_model.specs.Variables.{atom_value}
-use Rattle.flt_model.specs.World.{World, Store, Actor, Activation, Link, no_actor, activation_at, actor_at}
+use Rattle.flt_model.specs.declared.parts.Link.{Link}
+use Rattle.flt_model.specs.World.{World, Store, Actor, Activation, no_actor, activation_at, actor_at}
 use Rattle.flt_machine_calls.specs.Own.{AreOwn}
 use Rattle.flt_machine_calls.specs.Plans.{IsPlanned, Plans, world_of}
 use Rattle.flt_machine_calls.specs.declared.caller.Caller.{Caller}

@@ -19,7 +19,6 @@ use Rattle.flt_model.specs.Effects.{Step, calling, operation, optional, loses_co
 use Rattle.flt_model.specs.Settling.{makes_frame}
 use Rattle.flt_model.specs.Variables.{operation_in, named_in}
 use Rattle.flt_model.specs.World.{World, Store, Actor, Activation, activation_at}
-use Rattle.flt_ops.specs.Parts as parts
 use Rattle.flt_machine_calls.specs.Completing.{IsLed, IsSettledBy, answer_told, completes, needs_of_completion, settles_by}
 use Rattle.flt_machine_calls.specs.Own.{AreOwn}
 use Rattle.flt_machine_calls.specs.Plans.{IsPlanned, world_of}
@@ -120,7 +119,7 @@ lost_up_to a false x = (tt, omega arith)
 settled_up_to : (w : World) (a : ℕ) (rest : List Statement) (settled : Option Settlement) → AreUpTo a 8 (settles_by w a rest settled).events
 settled_up_to w a rest None = (tt, omega arith)
 settled_up_to w a rest (Some e) =
-    let frame = makes_frame w.store e.visit (parts.way_of e.way) in
+    let frame = makes_frame w.store e.visit e.way in
     let behind = joined a 1 1 (if frame then loses_context a e.context else []) (event.Settle e.visit ∷ []) (lost_up_to a frame e.context)
     ((tt, tt), omega arith) in
     ((refl, behind.0), omega (arith, behind.1))

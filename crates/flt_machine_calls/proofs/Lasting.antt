@@ -13,6 +13,8 @@ use Rattle.flt_rules.specs.declared.held.HeldLock.{HeldLock}
 use Rattle.flt_rules.specs.declared.held.Access.TheVariants.{Exclusive, Shared}
 use Rattle.flt_tree.specs.Filter.{context_of}
 use Rattle.flt_tree.specs.Variable.{whose}
+use Rattle.flt_tree.specs.declared.filter.FallibleCall.{FallibleCall}
+use Rattle.flt_tree.specs.declared.filter.FallibleCall.TheVariants as fallible
 use Rattle.flt_tree.specs.declared.filter.Filter.{Filter}
 use Rattle.flt_tree.specs.declared.filter.PlainCall.{PlainCall}
 use Rattle.flt_tree.specs.declared.filter.PlainCall.TheVariants as plain
@@ -29,20 +31,19 @@ use Rattle.flt_model.specs.Calls as calls
 use Rattle.flt_model.specs.Effects.{Step, onward, goes_on, unchanged, gives_nothing, after_unlink, freed_by_drop, loses_context}
 use Rattle.flt_model.specs.Locks.{with_holder, without_holder}
 use Rattle.flt_model.specs.Reads as reads
-use Rattle.flt_model.specs.Steps.{plain_step}
+use Rattle.flt_model.specs.Steps.{numbered_step, plain_step}
 use Rattle.flt_model.specs.Variables.{context_in, operation_in, named_in, with_number, with_old, with_context_in, with_operation_in}
-use Rattle.flt_model.specs.World.{World, Store, Activation, Entry, Link, nobody, actor_at, activation_at}
+use Rattle.flt_model.specs.declared.parts.Entry.{Entry}
+use Rattle.flt_model.specs.declared.parts.Link.{Link}
+use Rattle.flt_model.specs.World.{World, Store, Activation, nobody, actor_at, activation_at}
 use Rattle.flt_model.specs.World.{context_at, linked_at, is_attached, presence_at, queue_at, arrival_of}
 use Rattle.flt_model.specs.declared.event.Answer.{Answer}
 use Rattle.flt_model.specs.declared.event.Answer.TheVariants.{CompletesPre, CompletesPost}
 use Rattle.flt_model.specs.declared.event.Event.{Event}
 use Rattle.flt_model.specs.declared.event.Event.TheVariants as event
 use Rattle.flt_model.specs.declared.event.Object.TheVariants.{Visit}
-use Rattle.flt_machine_calls.specs.Decoding.{asked_step}
 use Rattle.flt_machine_calls.specs.Plans.{Plans, TakesNone, is_end, world_of, written}
 use Rattle.flt_machine_calls.specs.declared.caller.Caller.{Caller}
-use Rattle.flt_machine_calls.specs.declared.decoding.ResolvedCall.{ResolvedCall}
-use Rattle.flt_machine_calls.specs.declared.decoding.ResolvedCall.TheVariants as asked
 use Rattle.flt_machine_calls.specs.declared.plans.Plan.{Plan}
 use Rattle.flt_machine_calls.specs.declared.plans.Write.{Write}
 use Rattle.flt_machine_calls.specs.declared.plans.Write.TheVariants as write
@@ -308,36 +309,37 @@ module _ (w : World) (a : ℕ) (lives : (activation_at w a).ended ≡ false) whe
   same_world x y is = like (ap (λ (u : World). u.activations) is)
 
   -- a call that can fail leaves its activation going on
-  pub asked_lasts : (grant : Bool) (granted refused : List Statement) (x : ResolvedCall) → Lasts w a (asked_step w a grant granted refused x)
-  asked_lasts grant granted refused (asked.Allocate d) =
+  pub fallible_lasts : (grant : Bool) (granted refused : List Statement) (x : FallibleCall ℕ) →
+      Lasts w a (numbered_step w a grant granted refused x)
+  fallible_lasts grant granted refused (fallible.AllocateContext d) =
       same_world (if grant then calls.allocated w a d granted (length w.store.contexts) else gives_nothing w a (Some d) refused)
       (calls.allocate w a d grant granted refused) refl (allocated d grant granted refused)
-  asked_lasts grant granted refused (asked.Get on_what d) =
+  fallible_lasts grant granted refused (fallible.GetContext on_what d) =
       let l = calls.link_of w.store (actor_at w a).filter on_what (operation_in (activation_at w a) Data) in
       same_world (calls.get_by w a d granted refused l) (calls.get w a on_what d granted refused) refl (get_by d granted refused l)
-  asked_lasts grant granted refused (asked.Set on_what existing c old) =
+  fallible_lasts grant granted refused (fallible.SetContext on_what existing c old) =
       let l = calls.link_of w.store (actor_at w a).filter on_what (operation_in (activation_at w a) Data) in
       let x = context_in (activation_at w a) c in
       same_world (calls.set_by w a existing old granted refused x l) (calls.set_context w a on_what existing c old granted refused) refl
       (set_by existing old granted refused x l)
-  asked_lasts grant granted refused (asked.DeleteAt on_what old) =
+  fallible_lasts grant granted refused (fallible.DeleteContextOf on_what old) =
       let l = calls.link_of w.store (actor_at w a).filter on_what (operation_in (activation_at w a) Data) in
       same_world (calls.delete_by w a old granted refused l) (calls.delete_at w a on_what old granted refused) refl
       (delete_by old granted refused l)
-  asked_lasts grant granted refused (asked.Insert c) =
+  fallible_lasts grant granted refused (fallible.InsertIo c) =
       let v = operation_in (activation_at w a) Data in
       let x = named_in (activation_at w a) c in
       same_world (calls.insert_by w a granted refused v x) (calls.insert w a c granted refused) refl (insert_by granted refused v x)
-  asked_lasts grant granted refused (asked.RemoveNext o d) =
+  fallible_lasts grant granted refused (fallible.RemoveNextIo o d) =
       let queue = queue_at w.store (actor_at w a).filter in
       same_world (calls.removed w a o d granted refused queue) (calls.remove_next w a o d granted refused) refl
       (removed o d granted refused queue)
-  asked_lasts grant granted refused (asked.Defer routine c) =
+  fallible_lasts grant granted refused (fallible.QueueDeferredIoWorkItem routine c) =
       let v = operation_in (activation_at w a) Data in
       let x = named_in (activation_at w a) c in
       same_world (calls.defer_by w a routine grant granted refused v x) (calls.queue_deferred w a routine c grant granted refused) refl
       (defer_by routine grant granted refused v x)
-  asked_lasts grant granted refused (asked.Queue routine c) =
+  fallible_lasts grant granted refused (fallible.QueueGenericWorkItem routine c) =
       let x = named_in (activation_at w a) c in
       same_world (calls.queue_by w a routine grant granted refused x) (calls.queue_generic w a routine c grant granted refused) refl
       (queue_by routine grant granted refused x)
@@ -393,10 +395,11 @@ module _ (s : Store) (c : Caller) (plan : Plan) where
       (λ w lives. plain_lasts w c.activation lives [] [] [] call)
 
   -- the plan of a call that can fail takes no lock that the caller holds
-  pub asked_takes : (grant : Bool) (x : ResolvedCall) → Plans s c plan (λ w granted refused. asked_step w c.activation grant granted refused x) →
+  pub fallible_takes : (grant : Bool) (x : FallibleCall ℕ) →
+      Plans s c plan (λ w granted refused. numbered_step w c.activation grant granted refused x) →
       TakesNone c.standing.locks plan.write
-  asked_takes grant x planned = takes_none s c plan (λ w granted refused. asked_step w c.activation grant granted refused x) planned
-      (λ w lives. asked_lasts w c.activation lives grant [] [] x)
+  fallible_takes grant x planned = takes_none s c plan (λ w granted refused. numbered_step w c.activation grant granted refused x) planned
+      (λ w lives. fallible_lasts w c.activation lives grant [] [] x)
 
 -- what ends the activation takes no lock
 pub end_takes : (locks : List HeldLock) (x : Write) → is_end x ≡ true → TakesNone locks x

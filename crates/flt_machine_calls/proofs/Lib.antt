@@ -1,9 +1,9 @@
 pub mod Answering
 pub mod Called
 pub mod Completed
-pub mod Decoded
 pub mod Fresh
 pub mod Lasting
+pub mod Numbered
 pub mod Owned
 pub mod Planned
 pub mod Queued

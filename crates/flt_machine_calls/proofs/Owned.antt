@@ -16,7 +16,8 @@ use Rattle.flt_model.specs.Effects.{calling, needing, freed_by_drop, events_of_u
 use Rattle.flt_model.specs.Reads.{read_value_of, write_value_of, read_file_of, test_irp_of}
 use Rattle.flt_tree.specs.declared.variable.Atom.{Atom}
 use Rattle.flt_tree.specs.declared.variable.NumberVariable.{NumberVariable}
-use Rattle.flt_model.specs.World.{World, Store, Link, context_at, linked_at}
+use Rattle.flt_model.specs.declared.parts.Link.{Link}
+use Rattle.flt_model.specs.World.{World, Store, context_at, linked_at}
 use Rattle.flt_model.specs.declared.event.Event.{Event}
 use Rattle.flt_model.specs.declared.event.Event.TheVariants as event
 use Rattle.flt_model.specs.declared.event.Object.{Object}

@@ -2,17 +2,19 @@
 use Rattle.std.proofs.Common.{◌≡◌, inl, inr, ℕ, Bool, true, false, List, [], Option, Some, None, Result, Ok, Err, get_or, refl, ap, subst}
 use Rattle.std.specs.Prelude.{IfOk}
 use Rattle.std.proofs.lemmas.Result.{IfOk-at_ok, IfOk-weaker}
+use Rattle.flt_tree.specs.Registered.{numbered}
 use Rattle.flt_tree.specs.declared.filter.Action.{Action}
 use Rattle.flt_tree.specs.declared.filter.FallibleCall.{FallibleCall}
 use Rattle.flt_tree.specs.declared.filter.Filter.{Filter}
 use Rattle.flt_tree.specs.declared.filter.PlainCall.{PlainCall}
+use Rattle.flt_tree.specs.declared.filter.Routine.{Routine}
 use Rattle.flt_tree.specs.declared.filter.Statement.{Statement}
 use Rattle.flt_tree.specs.declared.filter.Status.{Status}
 use Rattle.flt_tree.specs.declared.filter.Test.{Test}
-use Rattle.flt_graph.specs.Instruction as invocation
 use Rattle.flt_graph.specs.declared.instruction.Instruction.{Instruction}
 use Rattle.flt_graph.specs.declared.instruction.Instruction.TheVariants as instruction
-use Rattle.flt_graph.specs.declared.instruction.Invocation.{Invocation}
+use Rattle.flt_graph.specs.declared.instruction.ResolvedCall.{ResolvedCall}
+use Rattle.flt_graph.specs.declared.instruction.ResolvedCall.TheVariants as resolved
 use Rattle.flt_model.specs.Effects.{Step}
 use Rattle.flt_model.specs.Program.{callbacks_at}
 use Rattle.flt_model.specs.Returns.{returns}
@@ -23,8 +25,7 @@ use Rattle.flt_machine_frames.specs.Firsts.{Remains}
 use Rattle.flt_machine_frames.specs.Loading.{AreLoaded}
 use Rattle.flt_machine_frames.specs.Standings.{StandsFor}
 use Rattle.flt_machine_frames.specs.declared.loaded.Loaded.{Loaded}
-use Rattle.flt_machine_calls.specs.Decoding.{choice_of}
-use Rattle.flt_machine_calls.specs.Plans.{IsCaller, IsCounted, IsPlanned, Plans, PlansBy, choice_at, remaining_by, world_of}
+use Rattle.flt_machine_calls.specs.Plans.{IsCaller, IsCounted, IsPlanned, Plans, PlansBy, choice_at, choice_of, remaining_by, world_of}
 use Rattle.flt_machine_calls.specs.declared.caller.Caller.{Caller}
 use Rattle.flt_machine_calls.specs.declared.plans.Plan.{Plan}
 use Rattle.flt_machine_calls.proofs.Stepped.{act_case, call_case, ask_case, test_case, return_case, end_case, repeat_case}
@@ -84,12 +85,12 @@ module _ (l : Loaded) (s : Store) (c : Caller) (grant : Bool) where
       (ap (λ (act : Activation). act.ended) h.act) board_is (told p (activation_at w c.activation) loaded stands))))
 
   -- a plan of the call at which the caller stands, plain or one that can fail, is a plan of its step
-  pub call_ends : {E : Type 0} (r : Result Plan E) (made : Invocation) (m n : ℕ) → Told l c (instruction.Call made m n) →
-      ((p : List Filter) (t : List Event) (call : PlainCall) → AreLoaded p l → made ≡ invocation.plain call →
+  pub call_ends : {E : Type 0} (r : Result Plan E) (made : ResolvedCall) (m n : ℕ) → Told l c (instruction.Call made m n) →
+      ((p : List Filter) (t : List Event) (call : PlainCall) → AreLoaded p l → made ≡ resolved.Plain call →
       IfOk r (λ (plan : Plan). Plans s c plan
       (λ (w : World) (granted refused : List Statement). plain_step p t w c.activation granted call))) →
-      ((p : List Filter) (t : List Event) (call : FallibleCall) →
-      AreLoaded p l → made ≡ invocation.fallible (callbacks_at p c.filter) call →
+      ((p : List Filter) (t : List Event) (call : FallibleCall Routine) →
+      AreLoaded p l → made ≡ resolved.Fallible (numbered (callbacks_at p c.filter) call) →
       IfOk r (λ (plan : Plan). Plans s c plan
       (λ (w : World) (granted refused : List Statement). fallible_step p t w c.activation (choice_of call grant) granted refused call))) →
       IfOk r (IsStep l s c grant)

@@ -6,7 +6,8 @@ use Rattle.flt_tree.specs.declared.variable.ContextVariable.{ContextVariable}
 use Rattle.flt_tree.specs.declared.variable.RemovedVariable.{RemovedVariable}
 use Rattle.flt_model.specs.Calls.{enqueued, insert_by, with_entry, removed, deferred, defer_by, queued, queue_by}
 use Rattle.flt_model.specs.Effects.{Step, optional, onward, goes_on, unchanged, uses, empties, calling, gains_context, loses_context}
-use Rattle.flt_model.specs.World.{World, Store, Entry, is_attached, presence_at, actor_at}
+use Rattle.flt_model.specs.declared.parts.Entry.{Entry}
+use Rattle.flt_model.specs.World.{World, Store, is_attached, presence_at, actor_at}
 use Rattle.flt_model.specs.declared.event.Event.{Event}
 use Rattle.flt_model.specs.declared.event.Event.TheVariants as event
 use Rattle.flt_model.specs.declared.event.Object.{Object}

@@ -15,12 +15,11 @@ use Rattle.flt_model.specs.declared.event.Event.TheVariants as event
 use Rattle.flt_model.specs.declared.event.Object.TheVariants.{Visit}
 use Rattle.flt_model.specs.Effects.{context, loses_context}
 use Rattle.flt_model.specs.Returns.{there, returned, returns, ends, visit_given_back}
-use Rattle.flt_model.specs.Settling.{Way, way_of, makes_frame, settles_visit, settled_by}
+use Rattle.flt_model.specs.declared.settling.Way.{Way}
+use Rattle.flt_model.specs.Settling.{way_of, makes_frame, settles_visit, settled_by}
 use Rattle.flt_model.specs.Trace.{is_held, gains, loses}
 use Rattle.flt_model.specs.Variables.{operation_in, named_in}
 use Rattle.flt_model.specs.World.{World, Store, Actor, Activation, activation_at}
-use Rattle.flt_ops.specs.Parts as parts
-use Rattle.flt_ops.specs.declared.parts.Way as own
 use Rattle.flt_machine_store.specs.declared.change.Change.TheVariants as change
 use Rattle.flt_machine_calls.specs.Own.{AreOf, AreOwn}
 use Rattle.flt_machine_calls.specs.Plans.{IsCaller, IsCounted, IsPlanned, world_of}
@@ -42,27 +41,27 @@ answered_is p t w a st r v way h is does led =
 
 -- events that tell of the answer, of the visit and of the end are the plan of a return which answers for its operation
 pub return_planned : (p : List Filter) (t : List Event) (s : Store) (actors : List Actor) (acts : List Activation) (a : ℕ)
-    (st : Option Status) (r : Returning) (v : ℕ) (x : Option ℕ) (way : own.Way) (es0 es1 es2 es3 : List Event)
+    (st : Option Status) (r : Returning) (v : ℕ) (x : Option ℕ) (way : Way) (es0 es1 es2 es3 : List Event)
     (granted refused : List Statement) →
     IsReturning t (world_of s actors acts) a st r → r.given ≡ Some v → r.answers ≡ true → x ≡ there r.named →
-    parts.way_of way ≡ way_of p s v (Returned st) →
+    way ≡ way_of p s v (Returned st) →
     es0 ≡ [] → es1 ≡ es0 ++ (status_told a r.answers st ++ context_told a r.named) →
-    es2 ≡ es1 ++ visit_told s a r.held v x (parts.way_of way) → es3 ≡ es2 ++ event.End a ∷ [] →
+    es2 ≡ es1 ++ visit_told s a r.held v x way → es3 ≡ es2 ++ event.End a ∷ [] →
     IsPlanned (world_of s actors acts) a (record { events = es3; granted = true; write = write.End; change = change.Settle v x way }) []
     granted refused (returns p t (world_of s actors acts) a st)
 return_planned p t s actors acts a st r v x way es0 es1 es2 es3 granted refused h is does its led none one two three =
     rw (its)
     (subst (IsPlanned (world_of s actors acts) a
     (record { events = es3; granted = true; write = write.End; change = change.Settle v (there r.named) way }) [] granted refused)
-    (sym (answered_is p t (world_of s actors acts) a st r v (parts.way_of way) h is does led))
+    (sym (answered_is p t (world_of s actors acts) a st r v way h is does led))
     (record { events = events; world = refl }))
   where
-    back : es2 ≡ es1 ++ visit_given_back p t (world_of s actors acts) a v (there r.named) (parts.way_of way)
-    back = two ∙ ap (λ (y : Option ℕ). es1 ++ visit_told s a r.held v y (parts.way_of way)) its ∙
-        ap (λ (b : Bool). es1 ++ visit_told s a b v (there r.named) (parts.way_of way)) (h.held v is)
+    back : es2 ≡ es1 ++ visit_given_back p t (world_of s actors acts) a v (there r.named) way
+    back = two ∙ ap (λ (y : Option ℕ). es1 ++ visit_told s a r.held v y way) its ∙
+        ap (λ (b : Bool). es1 ++ visit_told s a b v (there r.named) way) (h.held v is)
 
     events : es3 ≡ (((status_told a r.answers st ++ context_told a r.named) ++
-        visit_given_back p t (world_of s actors acts) a v (there r.named) (parts.way_of way)) ++ event.End a ∷ [])
+        visit_given_back p t (world_of s actors acts) a v (there r.named) way) ++ event.End a ∷ [])
     events = rw (three, back, one, none) refl
 
 -- ---- the events are the activation's own

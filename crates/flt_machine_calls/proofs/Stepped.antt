@@ -11,7 +11,7 @@ use Rattle.flt_tree.specs.declared.filter.Status.{Status}
 use Rattle.flt_tree.specs.declared.filter.Test.{Test}
 use Rattle.flt_graph.specs.Points.{remaining_of}
 use Rattle.flt_graph.specs.Turns.{left_at}
-use Rattle.flt_graph.specs.declared.instruction.Invocation.{Invocation}
+use Rattle.flt_graph.specs.declared.instruction.ResolvedCall.{ResolvedCall}
 use Rattle.flt_model.specs.Effects.{Step}
 use Rattle.flt_model.specs.Returns.{returns}
 use Rattle.flt_model.specs.Steps.{may_go, act_step, plain_step, fallible_step, test_step, statement_step, first_step, list_step, board}
@@ -19,8 +19,7 @@ use Rattle.flt_model.specs.World.{World, activation_at}
 use Rattle.flt_model.specs.declared.event.Event.{Event}
 use Rattle.flt_machine_frames.specs.Firsts.{ActsFirst, CallsFirst, AsksCallFirst, TestsFirst, ReturnsFirst, RepeatsFirst}
 use Rattle.flt_machine_frames.specs.declared.standing.Standing.{Standing}
-use Rattle.flt_machine_calls.specs.Decoding.{choice_of}
-use Rattle.flt_machine_calls.specs.Plans.{choice_at, leaves_choice_by, list_or_none, remaining_by}
+use Rattle.flt_machine_calls.specs.Plans.{choice_at, choice_of, leaves_choice_by, list_or_none, remaining_by}
 
 remains : (rest later : List Statement) (first : Statement) (text : Statement-F Statement) (outcome : Bool) →
     rest ≡ first ∷ later → out-Statement first ≡ text →
@@ -63,7 +62,7 @@ module _ (p : List Filter) (t : List Event) (w : World) (a : ℕ) (choice : Bool
       ∙ first_going x.first x.later (Statement-F.Act x.span action) lives is x.rest_is x.text
 
   -- where a plain call remains first, the step that others see is that of the call
-  pub call_case : (cs : List Callback) (s : Standing) (made : Invocation) (m n : ℕ) →
+  pub call_case : (cs : List Callback) (s : Standing) (made : ResolvedCall) (m n : ℕ) →
       (activation_at w a).ended ≡ false → board p t w a choice ≡ Some step →
       (x : CallsFirst cs s (activation_at w a).rest made m n) →
       plain_step p t w a (remaining_by (activation_at w a).rest true) x.call ≡ step
@@ -74,7 +73,7 @@ module _ (p : List Filter) (t : List Event) (w : World) (a : ℕ) (choice : Bool
       (first_going x.first x.later (Statement-F.Call x.span x.call) lives is x.rest_is x.text)
 
   -- where a call that can fail remains first, the step that others see is that of the call, with the choice that was made
-  pub ask_case : (cs : List Callback) (s : Standing) (made : Invocation) (m n : ℕ) (grant : Bool) →
+  pub ask_case : (cs : List Callback) (s : Standing) (made : ResolvedCall) (m n : ℕ) (grant : Bool) →
       (activation_at w a).ended ≡ false → board p t w a choice ≡ Some step →
       choice ≡ choice_at (activation_at w a).rest grant → (x : AsksCallFirst cs s (activation_at w a).rest made m n) →
       fallible_step p t w a (choice_of x.call grant) (remaining_by (activation_at w a).rest true)

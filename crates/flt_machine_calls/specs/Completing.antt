@@ -10,7 +10,6 @@ use Rattle.flt_model.specs.declared.event.Object.TheVariants.{Visit}
 use Rattle.flt_model.specs.Effects.{Step, operation, optional, uses, empties, loses_context, calling, goes_on, onward, unchanged}
 use Rattle.flt_model.specs.Settling.{way_of, makes_frame, settled_by}
 use Rattle.flt_model.specs.World.{World, Store}
-use Rattle.flt_ops.specs.Parts as parts
 use Rattle.flt_machine_calls.specs.declared.effects.CallOperands.{CallOperands}
 use Rattle.flt_machine_calls.specs.declared.settling.Completion.{Completion}
 use Rattle.flt_machine_calls.specs.declared.settling.Settlement.{Settlement}
@@ -19,7 +18,7 @@ use Rattle.flt_machine_calls.specs.declared.settling.Settlement.{Settlement}
 abbrev pub settled_told : Store → ℕ → Settlement → List Event
 settled_told s a e =
     event.Lose a (Visit e.visit)
-    ∷ (if makes_frame s e.visit (parts.way_of e.way) then loses_context a e.context else [])
+    ∷ (if makes_frame s e.visit e.way then loses_context a e.context else [])
     ++ event.Settle e.visit ∷ []
 
 -- the status is given to an operation that is there
@@ -41,7 +40,7 @@ completion_told a c =
 abbrev pub settles_by : World → ℕ → List Statement → Option Settlement → Step
 settles_by w a rest None = unchanged w a rest
 settles_by w a rest (Some e) =
-    goes_on w a (onward w a rest) (settled_by w.store e.visit e.context (parts.way_of e.way)) (settled_told w.store a e)
+    goes_on w a (onward w a rest) (settled_by w.store e.visit e.context e.way) (settled_told w.store a e)
 
 -- the call with its effect
 abbrev pub completes : World → ℕ → Completion → List Statement → Step
@@ -50,7 +49,7 @@ completes w a c rest = calling w a c.call (answer_told a c.answer) (needs_of_com
 -- a visit is settled as an answer leads it
 abbrev pub IsLed : List Filter → Store → ℕ → Option ℕ → Answer → Option Settlement → Type 0
 IsLed p s v x answer None = ⊥
-IsLed p s v x answer (Some e) = (e.visit ≡ v) × (e.context ≡ x) × (parts.way_of e.way ≡ way_of p s v answer)
+IsLed p s v x answer (Some e) = (e.visit ≡ v) × (e.context ≡ x) × (e.way ≡ way_of p s v answer)
 
 -- what is settled by the names: nothing where the visit or the named context is NULL
 abbrev pub IsSettledOf : List Filter → Store → Option ℕ → Option (Option ℕ) → Answer → Option Settlement → Type 0

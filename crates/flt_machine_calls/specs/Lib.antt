@@ -3,5 +3,4 @@ pub mod Plans
 pub mod Following
 pub mod Continuing
 pub mod Completing
-pub mod Decoding
 pub mod Returning

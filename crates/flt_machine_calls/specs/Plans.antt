@@ -4,6 +4,8 @@ use Rattle.flt_rules.specs.Held.{held, holds_lock, without_last}
 use Rattle.flt_rules.specs.declared.held.HeldLock.{HeldLock}
 use Rattle.flt_tree.specs.declared.filter.Callback.{Callback}
 use Rattle.flt_tree.specs.declared.filter.Filter.{Filter}
+use Rattle.flt_tree.specs.declared.filter.FallibleCall.{FallibleCall}
+use Rattle.flt_tree.specs.declared.filter.Routine.{Routine}
 use Rattle.flt_tree.specs.declared.filter.Statement.{Statement, out-Statement}
 use Rattle.flt_tree.specs.declared.filter.Statement.TheOpen.{Statement-F}
 use Rattle.flt_tree.specs.declared.variable.OperationVariable.TheVariants.{Removed, Data}
@@ -13,12 +15,14 @@ use Rattle.flt_machine_frames.specs.declared.loaded.Loaded.{Loaded}
 use Rattle.flt_machine_frames.specs.declared.standing.Standing.{Standing}
 use Rattle.flt_graph.specs.Points.{remaining}
 use Rattle.flt_graph.specs.Turns.{StandsWith}
+use Rattle.flt_graph.specs.declared.instruction.Instruction.{Instruction}
+use Rattle.flt_graph.specs.declared.instruction.Instruction.TheVariants as instruction
 use Rattle.flt_model.specs.declared.event.Event.{Event}
 use Rattle.flt_model.specs.declared.event.Object.TheVariants.{Visit}
 use Rattle.flt_model.specs.Effects.{Step, onward}
 use Rattle.flt_model.specs.Program.{body_at, callbacks_at}
 use Rattle.flt_model.specs.Steps as steps
-use Rattle.flt_model.specs.Steps.{leaves_choice}
+use Rattle.flt_model.specs.Steps.{leaves_choice, may_be_refused}
 use Rattle.flt_model.specs.Trace.{gains, loses}
 use Rattle.flt_model.specs.Variables.{operation_in, with_number, with_context_in, with_operation_in, with_old}
 use Rattle.flt_model.specs.World.{World, Store, Actor, Activation, no_actor, nobody}
@@ -128,6 +132,18 @@ begins_with_choice (s ∷ rest) = leaves_choice_by (out-Statement s)
 -- the choice that is written: a step that leaves none is made with `yes`
 abbrev pub choice_at : List Statement → Bool → Bool
 choice_at rest grant = if begins_with_choice rest then grant else true
+
+-- the same of a call that can fail
+abbrev pub choice_of : FallibleCall Routine → Bool → Bool
+choice_of c grant = if may_be_refused c then grant else true
+
+-- ---- the end
+
+-- whether an instruction ends its callback
+abbrev pub is_ending : Instruction → Bool
+is_ending (instruction.Return status) = true
+is_ending instruction.End = true
+is_ending _ = false
 
 -- ---- the plan of a step
 

@@ -9,7 +9,8 @@ use Rattle.flt_model.specs.declared.event.Event.{Event}
 use Rattle.flt_model.specs.declared.event.Event.TheVariants as event
 use Rattle.flt_model.specs.declared.event.Object.TheVariants.{Visit}
 use Rattle.flt_model.specs.Effects.{optional, uses, empties, loses_context}
-use Rattle.flt_model.specs.Settling.{Way, makes_frame, settles_visit}
+use Rattle.flt_model.specs.declared.settling.Way.{Way}
+use Rattle.flt_model.specs.Settling.{makes_frame, settles_visit}
 use Rattle.flt_model.specs.Trace.{is_held}
 use Rattle.flt_model.specs.Variables.{operation_in, named_in}
 use Rattle.flt_model.specs.World.{World, Store, actor_at, activation_at}

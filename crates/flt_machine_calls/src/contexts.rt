@@ -16,7 +16,7 @@ use crate::effects::{context as context_object, need, operation as operation_obj
 use crate::plans::{Plan, Write, made_plan};
 use counted_heap::Heap;
 use flt_machine_store::{Change, Store};
-use flt_model::{Event, Key, Object};
+use flt_model::{Event, Key, Object, Variables};
 use flt_rules::{Anchor, Call, Existing};
 use flt_tree::{ContextVariable, OperationVariable};
 use std::alloc::AllocError;

@@ -15,7 +15,7 @@ ghost use Rattle.flt_tree.specs.declared.filter.Callback.{Callback};
 use crate::plans::{Plan, Write};
 use flt_graph::Instruction;
 use flt_machine_frames::{HeldLock, Standing};
-use flt_model::{Event, Object};
+use flt_model::{Event, Object, Variables};
 use flt_tree::OperationVariable;
 
 /// How often a visit was gained and lost.

@@ -8,7 +8,6 @@
 mod caller;
 mod contexts;
 mod continuing;
-mod decoding;
 mod effects;
 mod locking;
 mod planning;
@@ -16,7 +15,6 @@ mod plans;
 mod queueing;
 mod reads;
 mod settling;
-mod ways;
 
 pub use caller::Caller;
 pub use continuing::continued;

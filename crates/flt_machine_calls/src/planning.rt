@@ -1,12 +1,11 @@
 //! The plan of an activation's next instruction.
 
 ghost use Rattle.std.specs.Prelude.{◌≡◌, ◌≢◌, [], List, true, false, Some, IfOk, OnOk, OnErr};
-ghost use Rattle.flt_machine_calls.specs.Decoding as spec;
 ghost use Rattle.flt_machine_calls.specs.Own.{AreOwn};
-ghost use Rattle.flt_machine_calls.specs.Plans.{IsCaller, IsPlanned, Plans, PlansStep, TakesNone, is_end, world_of};
+ghost use Rattle.flt_machine_calls.specs.Plans.{IsCaller, IsPlanned, Plans, PlansStep, TakesNone, is_end, world_of, choice_of, is_ending};
 ghost use Rattle.flt_machine_calls.specs.declared.plans.Write.TheVariants as write;
 ghost use Rattle.flt_machine_frames.specs.Loading.{AreLoaded, instruction_in};
-ghost use Rattle.flt_graph.specs.Instruction as invocation;
+ghost use Rattle.flt_graph.specs.declared.instruction.ResolvedCall.TheVariants as resolved;
 ghost use Rattle.flt_model.specs.Effects.{Step};
 ghost use Rattle.flt_model.specs.Program.{callbacks_at};
 ghost use Rattle.flt_model.specs.Steps as steps;
@@ -14,20 +13,21 @@ ghost use Rattle.flt_model.specs.World as machine;
 ghost use Rattle.flt_model.specs.declared.event.Event.{Event};
 ghost use Rattle.flt_machine_store.specs.Changes.{AreCounted, IsPossible, cancels_entries};
 ghost use Rattle.flt_machine_store.specs.declared.change.Change.TheVariants.{Nothing};
+ghost use Rattle.flt_tree.specs.Registered.{numbered};
 ghost use Rattle.flt_tree.specs.declared.filter.FallibleCall.{FallibleCall};
 ghost use Rattle.flt_tree.specs.declared.filter.Filter.{Filter};
 ghost use Rattle.flt_tree.specs.declared.filter.PlainCall.{PlainCall};
+ghost use Rattle.flt_tree.specs.declared.filter.Routine.{Routine};
 ghost use Rattle.flt_tree.specs.declared.filter.Statement.{Statement};
 
 use crate::caller::Caller;
-use crate::decoding::{ResolvedCall, asked_by, callbacks, plain_by};
 use crate::plans::{Plan, Write, made_plan};
 use crate::{contexts, locking, queueing, reads, settling};
 use counted_heap::Heap;
-use flt_graph::{Instruction, Invocation};
+use flt_graph::{Instruction, ResolvedCall};
 use flt_machine_frames::{Loaded, standings_have_points};
 use flt_machine_store::{Change, Store};
-use flt_tree::{Action, PlainCall, Test};
+use flt_tree::{Action, FallibleCall, PlainCall, Test};
 use std::alloc::{AllocError, Global};
 
 /// The plan of an instruction that can't be at a point, or that no other activation sees: it does nothing.
@@ -141,36 +141,38 @@ fn plan_plain(
 }
 
 /// The plan of a call that can fail.
-fn plan_asked(
+fn plan_fallible(
     heap: &mut Heap,
     store: &Store,
     caller: &Caller,
-    asked: ResolvedCall,
+    call: FallibleCall<usize>,
     grant: bool,
 ) -> Result<Plan, AllocError>
     ensures planned { IfOk result (λ plan. Plans store.now caller.now plan
-        (λ w granted refused. spec.asked_step w caller.now.activation grant granted refused asked)) }
+        (λ w granted refused. steps.numbered_step w caller.now.activation grant granted refused call)) }
     ensures own { IfOk result (λ plan. AreOwn caller.now.activation plan.events) }
     ensures possible { IfOk result (λ plan. AreCounted store.now → IsPossible store.now plan.change) }
     ensures few { IfOk result (λ plan. cancels_entries plan.change ≡ false) }
     ensures granted { OnOk result (heap.new ≡ heap.old) }
     ensures memory { OnErr result (heap.new ≢ heap.old) }
 {
-    match asked {
-        ResolvedCall::Allocate(output) => contexts::allocate(heap, store, caller, output, grant),
-        ResolvedCall::Get(on, output) => contexts::get(heap, store, caller, on, output),
-        ResolvedCall::Set(on, existing, context, old) => {
+    match call {
+        FallibleCall::AllocateContext(output) => {
+            contexts::allocate(heap, store, caller, output, grant)
+        }
+        FallibleCall::GetContext(on, output) => contexts::get(heap, store, caller, on, output),
+        FallibleCall::SetContext(on, existing, context, old) => {
             contexts::set_context(heap, store, caller, on, existing, context, old)
         }
-        ResolvedCall::DeleteAt(on, old) => contexts::delete_at(heap, store, caller, on, old),
-        ResolvedCall::Insert(context) => queueing::insert(heap, store, caller, context),
-        ResolvedCall::RemoveNext(operation, output) => {
+        FallibleCall::DeleteContextOf(on, old) => contexts::delete_at(heap, store, caller, on, old),
+        FallibleCall::InsertIo(context) => queueing::insert(heap, store, caller, context),
+        FallibleCall::RemoveNextIo(operation, output) => {
             queueing::remove_next(heap, store, caller, operation, output)
         }
-        ResolvedCall::Defer(routine, context) => {
+        FallibleCall::QueueDeferredIoWorkItem(routine, context) => {
             queueing::queue_deferred(heap, store, caller, routine, context, grant)
         }
-        ResolvedCall::Queue(routine, context) => {
+        FallibleCall::QueueGenericWorkItem(routine, context) => {
             queueing::queue_generic(heap, store, caller, routine, context, grant)
         }
     }
@@ -182,16 +184,16 @@ fn plan_call(
     loaded: &Loaded,
     store: &Store,
     caller: &Caller,
-    made: Invocation,
+    made: ResolvedCall,
     grant: bool,
 ) -> Result<Plan, AllocError>
-    ensures plain { (p : List Filter) (t : List Event) (call : PlainCall) → AreLoaded p loaded.now → made ≡ invocation.plain call →
+    ensures plain { (p : List Filter) (t : List Event) (call : PlainCall) → AreLoaded p loaded.now → made ≡ resolved.Plain call →
         IfOk result (λ plan. Plans store.now caller.now plan
         (λ w granted refused. steps.plain_step p t w caller.now.activation granted call)) }
-    ensures fallible { (p : List Filter) (t : List Event) (call : FallibleCall) → AreLoaded p loaded.now →
-        made ≡ invocation.fallible (callbacks_at p caller.now.filter) call →
+    ensures fallible { (p : List Filter) (t : List Event) (call : FallibleCall Routine) → AreLoaded p loaded.now →
+        made ≡ resolved.Fallible (numbered (callbacks_at p caller.now.filter) call) →
         IfOk result (λ plan. Plans store.now caller.now plan
-        (λ w granted refused. steps.fallible_step p t w caller.now.activation (spec.choice_of call grant) granted refused call)) }
+        (λ w granted refused. steps.fallible_step p t w caller.now.activation (choice_of call grant) granted refused call)) }
     ensures lasts { IfOk result (λ plan. (p : List Filter) → AreLoaded p loaded.now → is_end plan.write ≡ false) }
     ensures takes { IfOk result (λ plan. TakesNone caller.now.standing.locks plan.write) }
     ensures own { IfOk result (λ plan. AreOwn caller.now.activation plan.events) }
@@ -200,12 +202,9 @@ fn plan_call(
     ensures granted { OnOk result (heap.new ≡ heap.old) }
     ensures memory { OnErr result (heap.new ≢ heap.old) }
 {
-    if let Some(call) = plain_by(made) {
-        return plan_plain(heap, loaded, store, caller, call);
-    }
-    match asked_by(made, callbacks(loaded, caller.filter)) {
-        Some(asked) => plan_asked(heap, store, caller, asked, grant),
-        None => Ok(nothing(heap.alloc())),
+    match made {
+        ResolvedCall::Plain(call) => plan_plain(heap, loaded, store, caller, call),
+        ResolvedCall::Fallible(call) => plan_fallible(heap, store, caller, call, grant),
     }
 }
 
@@ -219,7 +218,7 @@ pub fn plan_step(
 ) -> Result<Plan, AllocError>
     ensures planned { IfOk result (PlansStep loaded.now store.now caller.now grant) }
     ensures ends { IfOk result (λ plan. (p : List Filter) → AreLoaded p loaded.now →
-        is_end plan.write ≡ spec.is_ending
+        is_end plan.write ≡ is_ending
         (instruction_in loaded.now caller.now.filter caller.now.standing.callback caller.now.standing.point)) }
     ensures takes { IfOk result (λ plan. TakesNone caller.now.standing.locks plan.write) }
     ensures own { IfOk result (λ plan. AreOwn caller.now.activation plan.events) }

@@ -15,23 +15,14 @@ ghost use Rattle.flt_tree.specs.declared.variable.OperationVariable.TheVariants.
 use crate::caller::Caller;
 use crate::effects::{CallOperands, context, gain_context, lose_context, need, need_named};
 use crate::plans::{Plan, Write, made_plan};
+use crate::settling::named_in;
 use counted_heap::Heap;
 use flt_machine_frames::Standing;
 use flt_machine_store::{Change, Store};
-use flt_model::{Event, Object};
+use flt_model::{Event, Object, Variables};
 use flt_rules::Call;
 use flt_tree::{ContextVariable, OperationVariable, RemovedVariable};
 use std::alloc::AllocError;
-
-/// The context that an optional operand names; none if the call hasn't the operand.
-fn named(standing: &Standing, variable: Option<ContextVariable>) -> Option<Option<usize>>
-    ensures { result ≡ variables.named_in (activation_with standing.now []) variable }
-{
-    match variable {
-        Some(variable) => Some(standing.context(variable)),
-        None => None,
-    }
-}
 
 /// The operation and the context that a call with this variable hands over.
 fn handed(standing: &Standing, variable: Option<ContextVariable>) -> CallOperands
@@ -40,7 +31,7 @@ fn handed(standing: &Standing, variable: Option<ContextVariable>) -> CallOperand
 {
     CallOperands {
         visit: standing.operation(OperationVariable::Data),
-        context: named(standing, variable),
+        context: named_in(standing, variable),
     }
 }
 
@@ -370,7 +361,7 @@ pub(crate) fn queue_generic(
     ensures memory { OnErr result (heap.new ≢ heap.old) }
 {
     let _ = store;
-    let named = named(&caller.standing, context);
+    let named = named_in(&caller.standing, context);
     let mut events = Vec::new(heap.alloc());
     heap.push(
         &mut events,

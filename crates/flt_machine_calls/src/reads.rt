@@ -15,7 +15,7 @@ use crate::effects::{context as context_object, need, operation as operation_obj
 use crate::plans::{Plan, Write, made_plan};
 use counted_heap::Heap;
 use flt_machine_store::{Change, Store};
-use flt_model::Event;
+use flt_model::{Event, Variables};
 use flt_tree::{Atom, ContextVariable, NumberVariable, OperationVariable};
 use std::alloc::AllocError;
 

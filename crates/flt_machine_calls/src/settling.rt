@@ -23,23 +23,24 @@ ghost use Rattle.flt_machine_calls.specs.Plans.{IsPlanned, TakesNone, is_end, Pl
 ghost use Rattle.flt_machine_calls.specs.Completing.{IsSettledBy, completes, completion_told, settled_told};
 ghost use Rattle.flt_machine_calls.specs.Returning.{IsReturning, context_told, status_told, visit_told};
 ghost use Rattle.flt_machine_calls.specs.Own.{AreOwn};
-ghost use Rattle.flt_ops.specs.Parts as parts;
 ghost use Rattle.flt_machine_store.specs.Changes.{AreCounted, IsPossible, cancels_entries};
 
 use crate::caller::Caller;
 use crate::effects::{CallOperands, context, lose_context, need, need_named};
 use crate::plans::{Plan, Write, made_plan};
-use crate::ways::{settles_visit, way_of};
 use counted_heap::Heap;
 use flt_machine_frames::{Loaded, Standing};
-use flt_machine_store::{Change, Store, Way};
-use flt_model::{Answer, Event, Object};
-use flt_rules::Call;
+use flt_machine_store::{Change, Store};
+use flt_model::{Answer, Event, Object, Variables, Way};
+use flt_rules::{Call, Stage};
 use flt_tree::{ContextVariable, OperationVariable, Status, named_context};
 use std::alloc::AllocError;
 
 /// The context that an optional operand names; none if the call hasn't the operand.
-fn named_in(standing: &Standing, variable: Option<ContextVariable>) -> Option<Option<usize>>
+pub(crate) fn named_in(
+    standing: &Standing,
+    variable: Option<ContextVariable>,
+) -> Option<Option<usize>>
     ensures { result ≡ named_in (activation_with standing.now []) variable }
 {
     match variable {
@@ -55,6 +56,22 @@ fn there(named: Option<Option<usize>>) -> Option<usize>
     match named {
         Some(context) => context,
         None => None,
+    }
+}
+
+/// Where an answer leads the operation of a visit.
+fn way_of(loaded: &Loaded, store: &Store, visit: usize, answer: Answer) -> Way
+    ensures { (p : List Filter) → AreLoaded p loaded.now → result ≡ settling.way_of p store.now visit answer }
+{
+    let returned = answer.is_returned();
+    let status = answer.status();
+    let at = store.visit(visit);
+    match at.stage {
+        Stage::Pre => {
+            let kind = store.arrival_of(visit).kind;
+            Way::before(loaded.has_post(at.filter, kind), returned, status)
+        }
+        Stage::Post => Way::after(returned, status),
     }
 }
 
@@ -144,23 +161,12 @@ fn plan_completion(
     }
 }
 
-/// The answer that FltCompletePendedPreOperation hands on.
-fn completes_pre(variable: OperationVariable, visit: usize, status: Status) -> Answer
-    ensures { result ≡ CompletesPre (whose variable) visit status }
-{
-    Answer::CompletesPre {
-        whose: variable.whose(),
-        visit,
-        status,
-    }
-}
-
-/// The same, of a visit that may be there.
+/// The answer of FltCompletePendedPreOperation.
 fn pre_answer(variable: OperationVariable, visit: Option<usize>, status: Status) -> Option<Answer>
     ensures { result ≡ option_map (λ v. CompletesPre (whose variable) v status) visit }
 {
     match visit {
-        Some(visit) => Some(completes_pre(variable, visit, status)),
+        Some(visit) => Some(Answer::completes_pre(variable, visit, status)),
         None => None,
     }
 }
@@ -284,7 +290,7 @@ fn tell_back(
     way: Way,
     events: &mut Vec<Event>,
 ) -> Result<(), AllocError>
-    ensures told { OnOk result (events.new.items ≡ events.old.items ++ visit_told store.now a held visit context (parts.way_of way)) }
+    ensures told { OnOk result (events.new.items ≡ events.old.items ++ visit_told store.now a held visit context way) }
     ensures granted { OnOk result (heap.new ≡ heap.old) }
     ensures memory { OnErr result (heap.new ≢ heap.old) }
 {
@@ -294,7 +300,7 @@ fn tell_back(
     if store.makes_frame(visit, way) {
         lose_context(heap, a, context, events)?;
     }
-    if settles_visit(way) {
+    if way.settles_visit() {
         heap.push(events, Event::Settle(visit))?;
     }
     Ok(())

@@ -9,7 +9,9 @@ use Rattle.flt_tree.specs.declared.filter.Filter.{Filter}
 use Rattle.flt_tree.specs.declared.filter.Statement.{Statement}
 use Rattle.flt_model.specs.Moves.{calls_pre, canceled, drain, is_entry_of, is_frame_of, last_frame, post_at, pre_at, starts, work_by}
 use Rattle.flt_model.specs.Program.{body_at, body_for, callbacks_at, is_canceled, is_pre_of, is_post_of, place_at}
-use Rattle.flt_model.specs.World.{Down, Frame, Position, Up, Visiting, World, arrival_at}
+use Rattle.flt_model.specs.declared.parts.Position.{Position}
+use Rattle.flt_model.specs.declared.parts.Position.TheVariants.{Down, Visiting, Up}
+use Rattle.flt_model.specs.World.{Frame, World, arrival_at}
 use Rattle.flt_model.specs.World.{is_detaching, item_at, presence_at, queue_at, route_at}
 use Rattle.flt_ops.specs.Operating.{filter_in, frame_in}
 use Rattle.flt_machine_store.specs.Changes.{after_change}

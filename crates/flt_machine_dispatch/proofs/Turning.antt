@@ -11,7 +11,8 @@ use Rattle.flt_model.specs.declared.moves.Key.{Key}
 use Rattle.flt_model.specs.declared.moves.Move.TheVariants.{Drain, Detached}
 use Rattle.flt_model.specs.Moves.{drain_by, has_frame, is_drained, is_frame_of, is_linked_by}
 use Rattle.flt_model.specs.Program.{filter_of}
-use Rattle.flt_model.specs.World.{Context, Frame, Link, Store, World, is_detaching, is_linked_to}
+use Rattle.flt_model.specs.declared.parts.Link.{Link}
+use Rattle.flt_model.specs.World.{Context, Frame, Store, World, is_detaching, is_linked_to}
 use Rattle.flt_model.specs.World.{linked_at, presence_at, queue_at, no_context, no_route, route_at}
 use Rattle.flt_machine_dispatch.specs.Turns.{ComesNextOf, is_enabled}
 

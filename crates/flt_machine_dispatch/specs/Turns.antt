@@ -6,7 +6,8 @@ use Rattle.flt_model.specs.declared.moves.Move.{Move}
 use Rattle.flt_model.specs.declared.moves.Move.TheVariants.{Pre, Skip, Lower, Post, Canceled, Drain, Unlink, Detached}
 use Rattle.flt_model.specs.Moves.{make, has_frame}
 use Rattle.flt_model.specs.Program.{filter_of}
-use Rattle.flt_model.specs.World.{World, Entry, Store, is_detaching, linked_at, presence_at, queue_at, visit_at}
+use Rattle.flt_model.specs.declared.parts.Entry.{Entry}
+use Rattle.flt_model.specs.World.{World, Store, is_detaching, linked_at, presence_at, queue_at, visit_at}
 use Rattle.flt_machine_store.specs.Stores.{order_of}
 
 -- the move is enabled

@@ -4,7 +4,7 @@ use Rattle.std.specs.Prelude.{option_and_then}
 use Rattle.flt_tree.specs.Measures.{cost}
 use Rattle.flt_model.specs.LocalSteps.{local_step}
 use Rattle.flt_model.specs.World.{Activation}
-use Rattle.flt_machine_frames.proofs.Costs.{IsCheaper, local_cheaper}
+use Rattle.flt_model.proofs.LocalCosts.{IsCheaper, local_cheaper}
 use Rattle.flt_machine_frames.specs.Leads.{locally}
 
 -- one step more

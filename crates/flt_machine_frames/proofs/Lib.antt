@@ -3,7 +3,6 @@ pub mod Parts
 pub mod Numbers
 pub mod Missing
 pub mod Filters
-pub mod Costs
 pub mod Going
 pub mod Stepping
 pub mod Ways

@@ -1,22 +1,24 @@
 -- What an instruction says of the statements that remain of an activation where it stands, and where each of them leads. This
 -- project's own representation.
 use Rattle.std.specs.Prelude.{◌≡◌, ◌⊎◌, ℕ, List, [], ◌∷◌, ◌++◌, Option, slice_get}
+use Rattle.flt_tree.specs.Registered.{numbered}
 use Rattle.flt_tree.specs.declared.filter.Action.{Action}
 use Rattle.flt_tree.specs.declared.filter.Callback.{Callback}
 use Rattle.flt_tree.specs.declared.filter.Condition.TheVariants as condition
 use Rattle.flt_tree.specs.declared.filter.FallibleCall.{FallibleCall}
 use Rattle.flt_tree.specs.declared.filter.PlainCall.{PlainCall}
+use Rattle.flt_tree.specs.declared.filter.Routine.{Routine}
 use Rattle.flt_tree.specs.declared.filter.Span.{Span}
 use Rattle.flt_tree.specs.declared.filter.Statement.{Statement, out-Statement}
 use Rattle.flt_tree.specs.declared.filter.Statement.TheOpen.{Statement-F}
 use Rattle.flt_tree.specs.declared.filter.Status.{Status}
 use Rattle.flt_tree.specs.declared.filter.Test.{Test}
-use Rattle.flt_graph.specs.Instruction as invocation
 use Rattle.flt_graph.specs.Points.{IsLeftOf, instruction_of}
 use Rattle.flt_graph.specs.Turns.{StandsWith, left_at}
 use Rattle.flt_graph.specs.declared.instruction.Instruction.{Instruction}
 use Rattle.flt_graph.specs.declared.instruction.Instruction.TheVariants as instruction
-use Rattle.flt_graph.specs.declared.instruction.Invocation.{Invocation}
+use Rattle.flt_graph.specs.declared.instruction.ResolvedCall.{ResolvedCall}
+use Rattle.flt_graph.specs.declared.instruction.ResolvedCall.TheVariants as resolved
 use Rattle.flt_model.specs.Program.{body_of}
 use Rattle.flt_machine_frames.specs.declared.standing.Standing.{Standing}
 
@@ -45,7 +47,7 @@ pub record ActsFirst (cs : List Callback) (s : Standing) (rest : List Statement)
   pub on : GoesOnAt cs s next later
 
 -- a call that always succeeds remains first; what is behind it stands at the next point, which is named twice
-pub record CallsFirst (cs : List Callback) (s : Standing) (rest : List Statement) (made : Invocation) (granted refused : ℕ)
+pub record CallsFirst (cs : List Callback) (s : Standing) (rest : List Statement) (made : ResolvedCall) (granted refused : ℕ)
     : Type 0 where
   pub span : Span
   pub call : PlainCall
@@ -53,22 +55,22 @@ pub record CallsFirst (cs : List Callback) (s : Standing) (rest : List Statement
   pub later : List Statement
   pub rest_is : rest ≡ first ∷ later
   pub text : out-Statement first ≡ Statement-F.Call span call
-  pub made_is : made ≡ invocation.plain call
+  pub made_is : made ≡ resolved.Plain call
   pub same : refused ≡ granted
   pub on : GoesOnAt cs s granted later
 
 -- an `if` of a call that can fail remains first; each of its blocks, with what is behind it, stands at its point
-pub record AsksCallFirst (cs : List Callback) (s : Standing) (rest : List Statement) (made : Invocation) (granted refused : ℕ)
+pub record AsksCallFirst (cs : List Callback) (s : Standing) (rest : List Statement) (made : ResolvedCall) (granted refused : ℕ)
     : Type 0 where
   pub span : Span
-  pub call : FallibleCall
+  pub call : FallibleCall Routine
   pub granted_block : List Statement
   pub refused_block : List Statement
   pub first : Statement
   pub later : List Statement
   pub rest_is : rest ≡ first ∷ later
   pub text : out-Statement first ≡ Statement-F.If span (condition.Succeeds call) granted_block refused_block
-  pub made_is : made ≡ invocation.fallible cs call
+  pub made_is : made ≡ resolved.Fallible (numbered cs call)
   pub granted_on : GoesOnAt cs s granted (granted_block ++ later)
   pub refused_on : GoesOnAt cs s refused (refused_block ++ later)
 

@@ -8,7 +8,8 @@ ghost use Rattle.flt_machine_frames.specs.Steps as spec;
 
 use crate::standing::Standing;
 use flt_graph::{Instruction, Turn};
-use flt_tree::{Action, OperationVariable, Test};
+use flt_model::Variables;
+use flt_tree::{Action, OperationVariable};
 
 impl Standing {
     /// Computes a number, or sets a variable to NULL, and answers whether it did: if others see the action, nothing is changed.
@@ -19,7 +20,7 @@ impl Standing {
     {
         match action {
             Action::SetNumber(variable, expression) => {
-                let value = self.expression(expression);
+                let value = self.expression(*expression);
                 self.set_number(*variable, value);
                 true
             }
@@ -32,25 +33,6 @@ impl Standing {
                 true
             }
             Action::ReadValue(_, _) | Action::ReadFile(_, _) | Action::WriteValue(_, _) => false,
-        }
-    }
-
-    /// The result of a test of the activation's own variables and flag; none if it is about the operation.
-    fn test(&self, draining: bool, test: Test) -> Option<bool>
-        ensures { result ≡ model.holds_test draining (activation_with self.now []) test }
-    {
-        match test {
-            Test::ContextIsSome(variable) => Some(self.context(variable).is_some()),
-            Test::OperationIsSome(variable) => {
-                Some(
-                    self.operation(OperationVariable::Removed(variable))
-                        .is_some(),
-                )
-            }
-            Test::Equal(variable, atom) => Some(self.number(variable) == self.atom(atom)),
-            Test::Less(variable, atom) => Some(self.number(variable) < self.atom(atom)),
-            Test::IsDraining => Some(draining),
-            Test::IsIrp => None,
         }
     }
 

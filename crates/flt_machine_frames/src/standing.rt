@@ -9,7 +9,8 @@ ghost use Rattle.flt_tree.specs.declared.filter.Callback.{Callback};
 use crate::held_locks::HeldLocks;
 use crate::turns::Turns;
 use flt_graph::lists_have_turns;
-use flt_tree::{Atom, ContextVariable, Expression, NumberVariable, OperationVariable};
+use flt_model::Variables;
+use flt_tree::{ContextVariable, NumberVariable, OperationVariable};
 
 /// How far an activation has come: its point, its variables and the locks that it holds. A variable keeps its number when the object that
 /// it names is released or handed over.
@@ -67,27 +68,6 @@ impl Standing {
 
     // ---- variables
 
-    /// The value of a number variable.
-    pub fn number(&self, variable: NumberVariable) -> u64
-        ensures { result ≡ model.number_in (spec.activation_with self.now []) variable }
-    {
-        self.numbers[variable.place()]
-    }
-
-    /// The number of the context that a variable names; none if it is NULL.
-    pub fn context(&self, variable: ContextVariable) -> Option<usize>
-        ensures { result ≡ model.context_in (spec.activation_with self.now []) variable }
-    {
-        self.contexts[variable.place()]
-    }
-
-    /// The number of the visit that a variable names; none if it is NULL.
-    pub fn operation(&self, variable: OperationVariable) -> Option<usize>
-        ensures { result ≡ model.operation_in (spec.activation_with self.now []) variable }
-    {
-        self.operations[variable.place()]
-    }
-
     /// Sets a number variable.
     pub fn set_number(&mut self, variable: NumberVariable, value: u64)
         ensures { self.new ≡ spec.with_variables self.old (model.with_number (spec.activation_with self.old []) variable value) }
@@ -110,27 +90,6 @@ impl Standing {
     {
         let place = variable.place();
         self.operations[place] = visit;
-    }
-
-    /// The value of a number or of a variable.
-    pub fn atom(&self, atom: Atom) -> u64
-        ensures { result ≡ model.atom_value (spec.activation_with self.now []) atom }
-    {
-        match atom {
-            Atom::Number(number) => number,
-            Atom::Variable(variable) => self.number(variable),
-        }
-    }
-
-    /// The value of a number, a sum or a difference; these wrap.
-    pub(crate) fn expression(&self, expression: &Expression) -> u64
-        ensures { result ≡ model.expression_value (spec.activation_with self.now []) expression.now }
-    {
-        match expression {
-            Expression::Atom(atom) => self.atom(*atom),
-            Expression::Sum(left, right) => self.atom(*left).wrapping_add(self.atom(*right)),
-            Expression::Difference(left, right) => self.atom(*left).wrapping_sub(self.atom(*right)),
-        }
     }
 
     // ---- equality
@@ -160,5 +119,27 @@ impl Standing {
             && self.locks.is_same(&other.locks)
             && self.gained == other.gained
             && self.lost == other.lost
+    }
+}
+
+impl Variables for Standing {
+    ghost activation = { λ s. spec.activation_with s [] };
+
+    fn number(&self, variable: NumberVariable) -> u64
+        ensures { result ≡ model.number_in (spec.activation_with self.now []) variable }
+    {
+        self.numbers[variable.place()]
+    }
+
+    fn context(&self, variable: ContextVariable) -> Option<usize>
+        ensures { result ≡ model.context_in (spec.activation_with self.now []) variable }
+    {
+        self.contexts[variable.place()]
+    }
+
+    fn operation(&self, variable: OperationVariable) -> Option<usize>
+        ensures { result ≡ model.operation_in (spec.activation_with self.now []) variable }
+    {
+        self.operations[variable.place()]
     }
 }

@@ -13,7 +13,10 @@ use Rattle.flt_model.specs.Calls.{put_link}
 use Rattle.flt_model.specs.Effects.{after_unlink}
 use Rattle.flt_model.specs.Moves.{is_entry_of, other_entries}
 use Rattle.flt_model.specs.Reads.{put_value}
-use Rattle.flt_model.specs.World.{Store, Context, Entry, Presence, Detached, no_context, context_at, visit_at, is_attached}
+use Rattle.flt_model.specs.declared.parts.Entry.{Entry}
+use Rattle.flt_model.specs.declared.parts.Presence.{Presence}
+use Rattle.flt_model.specs.declared.parts.Presence.TheVariants.{Detached}
+use Rattle.flt_model.specs.World.{Store, Context, no_context, context_at, visit_at, is_attached}
 use Rattle.flt_model.specs.World.{is_freed, with_context, with_queue, queue_at, add_reference, drop_reference, with_link}
 use Rattle.flt_machine_store.proofs.Reading.{queue_there}
 use Rattle.flt_machine_store.specs.Changes.{after_change, IsFirstOf}

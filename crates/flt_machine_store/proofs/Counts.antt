@@ -7,7 +7,7 @@ use Rattle.std.proofs.lemmas.List.{get_or-set_same, get_or-set_other, get_or-rep
 use Rattle.std.specs.List.{list_any}
 use Rattle.std.specs.Prelude.{nat_lt}
 use Rattle.flt_model.specs.Moves.{is_item_of}
-use Rattle.flt_model.specs.World.{Item}
+use Rattle.flt_model.specs.declared.parts.Item.{Item}
 use Rattle.flt_machine_store.specs.Waiting.{counted, waiting_of, AreCounted}
 
 -- ---- one count
@@ -61,49 +61,49 @@ none_counted items counts n empty zeros f low =
     let within : f < n = omega (arith, low, ap (λ (ks : List ℕ). length ks) zeros, length-replicate {A = ℕ} n 0) in
     rw (empty, zeros) (get_or-replicate n f 0 0 within)
 
--- an item of a filter that is read as `o`, and of whose count `n` is read
-module _ (items : List (Option Item)) (counts : List ℕ) (x : Item) (o : ℕ) (of : o ≡ x.filter) (was : AreCounted items counts) where
+-- an item, where the count of its filter is read as `n`
+module _ (items : List (Option Item)) (counts : List ℕ) (x : Item) (was : AreCounted items counts) where
   -- another filter's count is the same where the item counts at its own
-  module _ (new : List (Option Item)) (m : ℕ) (here : o < length counts) (own : m ≡ waiting_of o new)
-      (others : (f : ℕ) → f ≢ o → waiting_of f new ≡ waiting_of f items) where
-    pub recounted : AreCounted new (set counts o m)
+  module _ (new : List (Option Item)) (m : ℕ) (here : x.filter < length counts) (own : m ≡ waiting_of x.filter new)
+      (others : (f : ℕ) → f ≢ x.filter → waiting_of f new ≡ waiting_of f items) where
+    pub recounted : AreCounted new (set counts x.filter m)
     recounted f low =
-        let within : f < length counts = omega (arith, low, length-set counts o m) in
-        elim (cases_eq o f) [
-          | inl same ↦ ap (λ (k : ℕ). get_or (set counts o m) k 0) (sym same) ∙ get_or-set_same counts o m 0 here ∙ own
+        let within : f < length counts = omega (arith, low, length-set counts x.filter m) in
+        elim (cases_eq x.filter f) [
+          | inl same ↦ ap (λ (k : ℕ). get_or (set counts x.filter m) k 0) (sym same) ∙ get_or-set_same counts x.filter m 0 here ∙ own
               ∙ ap (λ (k : ℕ). waiting_of k new) same
-          | inr other ↦ get_or-set_other counts o f m 0 (λ same. other (sym same)) ∙ was f within ∙
+          | inr other ↦ get_or-set_other counts x.filter f m 0 (λ same. other (sym same)) ∙ was f within ∙
               sym (others f (λ same. other (sym same)))
         ]
 
-  here_or : (n : ℕ) → o < length counts → n ≡ get_or counts o n → n ≡ waiting_of o items
-  here_or n here read = read ∙ get_or_default counts o n 0 here ∙ was o here
+  here_or : (n : ℕ) → x.filter < length counts → n ≡ get_or counts x.filter n → n ≡ waiting_of x.filter items
+  here_or n here read = read ∙ get_or_default counts x.filter n 0 here ∙ was x.filter here
 
   module _ (new : List (Option Item)) (is : new ≡ items ++ Some x ∷ []) where
     more : (f : ℕ) → waiting_of f new ≡ waiting_of f items + counted f (Some x)
     more f = ap (waiting_of f) is ∙ count_pushed f items (Some x)
 
     -- a count with one more is no more than there are items
-    pub pushed_fits : (n : ℕ) → o < length counts → n ≡ get_or counts o n → n + 1 ≤ length new
+    pub pushed_fits : (n : ℕ) → x.filter < length counts → n ≡ get_or counts x.filter n → n + 1 ≤ length new
     pushed_fits n here read =
         let old = here_or n here read in
-        let one = of_itself o x (sym of) in
-        let all = count_within o new in
-        omega (arith, old, one, all, more o)
+        let one = of_itself x.filter x refl in
+        let all = count_within x.filter new in
+        omega (arith, old, one, all, more x.filter)
 
     -- the counts after one more item, where its filter has a count
-    pub pushed_here : (n : ℕ) → o < length counts → n ≡ get_or counts o n → AreCounted new (set counts o (n + 1))
+    pub pushed_here : (n : ℕ) → x.filter < length counts → n ≡ get_or counts x.filter n → AreCounted new (set counts x.filter (n + 1))
     pushed_here n here read =
         let old = here_or n here read in
-        let one = of_itself o x (sym of) in
-        let own : n + 1 ≡ waiting_of o new = omega (arith, old, one, more o) in
-        recounted new (n + 1) here own (λ f other. let none = of_another f x (λ same. other (sym (of ∙ same))) in
+        let one = of_itself x.filter x refl in
+        let own : n + 1 ≡ waiting_of x.filter new = omega (arith, old, one, more x.filter) in
+        recounted new (n + 1) here own (λ f other. let none = of_another f x (λ same. other (sym same)) in
         omega (arith, none, more f))
 
     -- and where it has none
-    pub pushed_past : length counts ≤ o → AreCounted new counts
+    pub pushed_past : length counts ≤ x.filter → AreCounted new counts
     pushed_past past f low =
-        let none = of_another f x (λ same. omega (arith, of, same, past, low)) in
+        let none = of_another f x (λ same. omega (arith, same, past, low)) in
         omega (arith, none, more f, was f low)
 
   module _ (i : ℕ) (there : Some x ≡ get_or items i None) where
@@ -111,21 +111,22 @@ module _ (items : List (Option Item)) (counts : List ℕ) (x : Item) (o : ℕ) (
     less f = ap (λ (y : Option Item). waiting_of f (set items i None) + counted f y) there ∙ count_taken f items i
 
     -- the filter of an item that waits has a count
-    pub taken_some : (n : ℕ) → o < length counts → n ≡ get_or counts o n → 1 ≤ n
+    pub taken_some : (n : ℕ) → x.filter < length counts → n ≡ get_or counts x.filter n → 1 ≤ n
     taken_some n here read =
-        let one = of_itself o x (sym of) in
-        omega (arith, here_or n here read, one, less o)
+        let one = of_itself x.filter x refl in
+        omega (arith, here_or n here read, one, less x.filter)
 
     -- the counts after the item is gone, where its filter has a count
-    pub taken_here : (n : ℕ) → o < length counts → n ≡ get_or counts o n → AreCounted (set items i None) (set counts o (n - 1))
+    pub taken_here : (n : ℕ) → x.filter < length counts → n ≡ get_or counts x.filter n →
+        AreCounted (set items i None) (set counts x.filter (n - 1))
     taken_here n here read =
-        let one = of_itself o x (sym of) in
-        let own : n - 1 ≡ waiting_of o (set items i None) = omega (arith, here_or n here read, one, less o) in
+        let one = of_itself x.filter x refl in
+        let own : n - 1 ≡ waiting_of x.filter (set items i None) = omega (arith, here_or n here read, one, less x.filter) in
         recounted (set items i None) (n - 1) here own
-        (λ f other. let none = of_another f x (λ same. other (sym (of ∙ same))) in omega (arith, none, less f))
+        (λ f other. let none = of_another f x (λ same. other (sym same)) in omega (arith, none, less f))
 
     -- and where it has none
-    pub taken_past : length counts ≤ o → AreCounted (set items i None) counts
+    pub taken_past : length counts ≤ x.filter → AreCounted (set items i None) counts
     taken_past past f low =
-        let none = of_another f x (λ same. omega (arith, of, same, past, low)) in
+        let none = of_another f x (λ same. omega (arith, same, past, low)) in
         omega (arith, none, less f, was f low)

@@ -6,7 +6,8 @@ use Rattle.std.proofs.lemmas.Bool.Decides.{nat_tests}
 use Rattle.std.specs.Prelude.{position, not, cond, nat_lt, IfSome, IfNone}
 use Rattle.std.specs.List.{list_any, position_or_len}
 use Rattle.flt_model.specs.Moves.{is_linked_by}
-use Rattle.flt_model.specs.World.{Store, Context, Link, is_linked_to, same_key, linked_at}
+use Rattle.flt_model.specs.declared.parts.Link.{Link}
+use Rattle.flt_model.specs.World.{Store, Context, is_linked_to, same_key, linked_at}
 use Rattle.flt_model.specs.declared.moves.Key.{Key}
 
 within_by : (b : Bool) (n m l : ℕ) (rest : Bool) → l ≡ 1 + m → nat_lt n m ≡ rest → nat_lt (cond (not b) (1 + n) 0) l ≡ (b || rest)

@@ -8,7 +8,11 @@ use Rattle.std.proofs.lemmas.List.Elements.{All-nil, All-same}
 use Rattle.flt_cbdq.specs.Queues as cbdq
 use Rattle.flt_cbdq.specs.declared.entry.Entry as kept
 use Rattle.flt_ctx.specs.Contexts as ctx
-use Rattle.flt_model.specs.World.{Presence, Attached, Detached, Holder, Entry, is_attached}
+use Rattle.flt_model.specs.declared.parts.Entry.{Entry}
+use Rattle.flt_model.specs.declared.parts.Holder.{Holder}
+use Rattle.flt_model.specs.declared.parts.Presence.{Presence}
+use Rattle.flt_model.specs.declared.parts.Presence.TheVariants.{Attached, Detached}
+use Rattle.flt_model.specs.World.{is_attached}
 use Rattle.flt_ops.specs.Operating.{Operating, no_operations}
 use Rattle.flt_machine_store.specs.Parts.{entry_of}
 use Rattle.flt_machine_store.specs.Stores.{AreParts}

@@ -5,7 +5,7 @@ use Rattle.std.proofs.Math.ListN.{get_or, set}
 use Rattle.std.proofs.lemmas.Bool.Decides.{nat_tests}
 use Rattle.std.specs.List.{list_all}
 use Rattle.flt_model.specs.Locks.{is_free_for, may_join}
-use Rattle.flt_model.specs.World.{Holder}
+use Rattle.flt_model.specs.declared.parts.Holder.{Holder}
 use Rattle.flt_rules.specs.Held.{are_compatible}
 use Rattle.flt_rules.specs.declared.held.Access.{Access}
 use Rattle.flt_rules.specs.declared.held.Access.TheVariants.{Exclusive, Shared}

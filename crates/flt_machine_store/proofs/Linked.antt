@@ -11,7 +11,8 @@ use Rattle.flt_ctx.specs.declared.key.Key as at
 use Rattle.flt_ctx.specs.declared.key.Target.{Target}
 use Rattle.flt_ctx.specs.declared.key.Target.TheVariants as target
 use Rattle.flt_model.specs.Moves.{is_linked_by}
-use Rattle.flt_model.specs.World.{Context, Link, is_linked_to}
+use Rattle.flt_model.specs.declared.parts.Link.{Link}
+use Rattle.flt_model.specs.World.{Context, is_linked_to}
 use Rattle.flt_model.specs.declared.moves.Key.{Key}
 use Rattle.flt_model.specs.declared.moves.Key.TheVariants as key
 use Rattle.flt_machine_store.specs.Parts.{key_of, link_of, context_of}

@@ -9,7 +9,8 @@ use Rattle.flt_cbdq.proofs.Entries.{cut_here, cut_later}
 use Rattle.flt_cbdq.specs.Queues as cbdq
 use Rattle.flt_cbdq.specs.declared.entry.Entry as kept
 use Rattle.flt_model.specs.Moves.{is_entry_of}
-use Rattle.flt_model.specs.World.{Store, Entry, Visit, no_visit}
+use Rattle.flt_model.specs.declared.parts.Entry.{Entry}
+use Rattle.flt_model.specs.World.{Store, Visit, no_visit}
 use Rattle.flt_ops.specs.Numbered.{numbers_from, numbers_of}
 use Rattle.flt_machine_store.proofs.Reading.{queue_there}
 use Rattle.flt_machine_store.specs.Parts.{entry_of}

@@ -13,7 +13,8 @@ use Rattle.flt_ctx.specs.declared.key.Key as at
 use Rattle.flt_ctx.specs.declared.key.Target.{Target}
 use Rattle.flt_ctx.specs.declared.key.Target.TheVariants.{Stream, Instance}
 use Rattle.flt_model.specs.Moves.{is_entry_of}
-use Rattle.flt_model.specs.World.{Store, Context, Entry, Visit, visit_at, same_key, is_linked_to}
+use Rattle.flt_model.specs.declared.parts.Entry.{Entry}
+use Rattle.flt_model.specs.World.{Store, Context, Visit, visit_at, same_key, is_linked_to}
 use Rattle.flt_machine_store.specs.Parts.{key_of, link_of, context_of, entry_of}
 
 -- ---- contexts

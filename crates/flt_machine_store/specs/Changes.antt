@@ -7,11 +7,12 @@ use Rattle.flt_model.specs.Locks.{with_holder, without_holder}
 use Rattle.flt_model.specs.Moves.{is_done, is_entry_of, is_frame_of, other_entries, with_arrival}
 use Rattle.flt_model.specs.Reads.{put_value}
 use Rattle.flt_model.specs.Settling.{settled_by}
-use Rattle.flt_model.specs.World.{Store, Detached, Detaching, Entry, is_attached, presence_at, queue_at, with_presence}
+use Rattle.flt_model.specs.declared.parts.Entry.{Entry}
+use Rattle.flt_model.specs.declared.parts.Presence.TheVariants.{Detaching, Detached}
+use Rattle.flt_model.specs.World.{Store, is_attached, presence_at, queue_at, with_presence}
 use Rattle.flt_model.specs.World.{with_queue, add_reference, drop_reference, context_at, is_freed, linked_at, route_at}
 use Rattle.flt_model.specs.declared.moves.Key.{Key}
 use Rattle.flt_ops.specs.Operating as operating
-use Rattle.flt_ops.specs.Parts.{way_of}
 use Rattle.flt_machine_store.specs.declared.change.Change.{Change}
 use Rattle.flt_machine_store.specs.declared.change.Change.TheVariants as change
 use Rattle.flt_rules.specs.Limits.{max_operations}
@@ -35,7 +36,7 @@ after_change s (change.RemoveOf f o v) = with_queue s f (other_entries s o (queu
 after_change s (change.Queue f r v x) =
     record s { items = s.items ++ Some (record { filter = f; routine = r; visit = v; context = x }) ∷ [] }
 after_change s (change.Start i) = record s { items = set s.items i None }
-after_change s (change.Settle v x way) = settled_by s v x (way_of way)
+after_change s (change.Settle v x way) = settled_by s v x way
 after_change s (change.Arrive kind mode file) = with_arrival s (record { kind = kind; mode = mode; file = file })
 after_change s (change.StartPre o f) = operating.in_pre_visit o f s
 after_change s (change.Skip o f) = operating.past_filter o f s

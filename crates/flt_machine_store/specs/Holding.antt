@@ -4,7 +4,7 @@ use Rattle.std.specs.BTreeMap.{is_at}
 use Rattle.std.specs.Map.{lookup}
 use Rattle.std.specs.Ordering.{nat_cmp}
 use Rattle.flt_model.specs.Locks.{may_join}
-use Rattle.flt_model.specs.World.{Holder}
+use Rattle.flt_model.specs.declared.parts.Holder.{Holder}
 use Rattle.flt_rules.specs.Held.{are_compatible}
 use Rattle.flt_rules.specs.declared.held.Access.{Access}
 use Rattle.flt_rules.specs.declared.held.Access.TheVariants.{Exclusive, Shared}

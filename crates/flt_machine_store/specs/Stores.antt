@@ -5,7 +5,10 @@ use Rattle.flt_cbdq.specs.Queues as cbdq
 use Rattle.flt_cbdq.specs.declared.entry.Entry.{Entry}
 use Rattle.flt_ctx.specs.Contexts as ctx
 use Rattle.flt_model.specs.Moves.{has_frame, is_empty, is_item_of, is_linked_by}
-use Rattle.flt_model.specs.World.{World, Store, Actor, Activation, Context, Presence, Attached, Detached, Holder, is_attached, queue_at}
+use Rattle.flt_model.specs.declared.parts.Holder.{Holder}
+use Rattle.flt_model.specs.declared.parts.Presence.{Presence}
+use Rattle.flt_model.specs.declared.parts.Presence.TheVariants.{Attached, Detached}
+use Rattle.flt_model.specs.World.{World, Store, Actor, Activation, Context, is_attached, queue_at}
 use Rattle.flt_model.specs.declared.moves.Key.{Key}
 use Rattle.flt_model.specs.declared.moves.Key.TheVariants.{Stream, Instance}
 use Rattle.flt_ops.specs.Operating.{Operating}

@@ -1,7 +1,7 @@
 -- How work items are kept, by this project's own rule: by filter, how many of its items wait.
 use Rattle.std.specs.Prelude.{◌≡◌, ℕ, ◌+◌, ◌<◌, if◌then◌else◌, List, [], ◌∷◌, Option, length, get_or}
 use Rattle.flt_model.specs.Moves.{is_item_of}
-use Rattle.flt_model.specs.World.{Item}
+use Rattle.flt_model.specs.declared.parts.Item.{Item}
 
 -- what an item adds to a filter's count
 abbrev pub counted : ℕ → Option Item → ℕ

@@ -1,7 +1,6 @@
 //! Changes of the store, one for each effect of a call or a move of the machine.
 
-use flt_model::Key;
-use flt_ops::Way;
+use flt_model::{Key, Way};
 use flt_rules::{Access, LockNumber, Mode, Operation};
 use flt_tree::ContextVariable;
 

@@ -3,31 +3,15 @@
 ghost use Rattle.std.specs.Prelude.{◌≡◌, ◌≢◌, [], ◌∷◌, ◌++◌, not, ◌==◌, filter, replicate, set, get_or, OnOk, OnErr};
 ghost use Rattle.std.specs.List.{list_all};
 ghost use Rattle.flt_model.specs.Locks as spec;
-ghost use Rattle.flt_model.specs.World as machine;
+ghost use Rattle.flt_model.specs.declared.parts.Holder.{Holder};
 ghost use Rattle.flt_machine_store.specs.Holding.{is_free, is_of, weight};
 
 use crate::places::Places;
 use counted_heap::Heap;
+use flt_model::Holder;
 use flt_rules::Access;
 use std::alloc::{AllocError, Global};
 use std::marker::Model;
-
-/// An activation that holds a lock, and how.
-#[derive(Clone, Copy)]
-pub(crate) struct Holder {
-    pub(crate) activation: usize,
-    pub(crate) access: Access,
-}
-
-impl Model for Holder {
-    ghost use Rattle.flt_model.specs.World as machine;
-
-    ghost Value = { machine.Holder };
-
-    ghost view = { λ h. record { activation = h.activation; access = h.access } };
-
-    ghost inverse = { λ h. record { activation = h.activation; access = h.access } };
-}
 
 /// The holders of a lock, in the order in which they took it. One is found by its activation, and counts decide whether a lock may be
 /// taken. The holders are searched only if an activation once took the lock while it held it, which no callback's step does.
@@ -44,10 +28,10 @@ pub(crate) struct Holders {
 
 impl Model for Holders {
     ghost use Rattle.std.specs.Prelude.{List};
-    ghost use Rattle.flt_model.specs.World as machine;
+    ghost use Rattle.flt_model.specs.declared.parts.Holder.{Holder};
     ghost use Rattle.flt_machine_store.specs.Holding.{AreHeld, standing};
 
-    ghost Value = { List machine.Holder };
+    ghost Value = { List Holder };
 
     ghost view = { λ h. standing h.places.items };
 
@@ -91,7 +75,7 @@ impl Holders {
 
     /// The activation is a holder no longer.
     pub(crate) fn remove(&mut self, activation: usize)
-        ensures { self.new ≡ filter (λ (h : machine.Holder). not (h.activation == activation)) self.old }
+        ensures { self.new ≡ filter (λ (h : Holder). not (h.activation == activation)) self.old }
     {
         if self.repeats {
             keep_others(&mut self.places, activation);

@@ -5,27 +5,9 @@ ghost use Rattle.std.specs.List.{list_any};
 ghost use Rattle.flt_model.specs.Moves.{is_item_of};
 
 use counted_heap::Heap;
+use flt_model::Item;
 use std::alloc::AllocError;
 use std::marker::Model;
-
-/// A queued work item: the filter, its routine by the number of the callback, and the visit and context that it hands over.
-#[derive(Clone, Copy)]
-pub struct Item {
-    pub filter: usize,
-    pub routine: usize,
-    pub visit: Option<usize>,
-    pub context: Option<usize>,
-}
-
-impl Model for Item {
-    ghost use Rattle.flt_model.specs.World as machine;
-
-    ghost Value = { machine.Item };
-
-    ghost view = { λ i. record { filter = i.filter; routine = i.routine; visit = i.visit; context = i.context } };
-
-    ghost inverse = { λ i. record { filter = i.filter; routine = i.routine; visit = i.visit; context = i.context } };
-}
 
 /// Work items by number, from 0.
 #[derive(Drop)]
@@ -37,10 +19,10 @@ pub(crate) struct WorkItems {
 
 impl Model for WorkItems {
     ghost use Rattle.std.specs.Prelude.{List, Option};
-    ghost use Rattle.flt_model.specs.World as machine;
+    ghost use Rattle.flt_model.specs.declared.parts.Item.{Item};
     ghost use Rattle.flt_machine_store.specs.Waiting.{AreCounted};
 
-    ghost Value = { List (Option machine.Item) };
+    ghost Value = { List (Option Item) };
 
     ghost view = { λ w. w.items.items };
 

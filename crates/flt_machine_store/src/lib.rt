@@ -9,13 +9,11 @@ mod holders;
 mod items;
 mod performing;
 mod places;
-mod presence;
 mod store;
 
 pub use change::Change;
 pub use flt_cbdq::Entry;
-pub use flt_ops::{Frame, Outcome, Position, Visit, Way};
-pub use items::Item;
+pub use flt_ops::{Frame, Visit};
 pub use store::Store;
 /// The answer of a change that was refused memory.
 pub use std::alloc::AllocError as OutOfMemory;

@@ -5,14 +5,11 @@ ghost use Rattle.flt_machine_store.specs.Changes.{after_change, IsPossible};
 ghost use Rattle.flt_machine_store.specs.declared.change.Change.TheVariants as change;
 
 use crate::change::Change;
-use crate::holders::Holder;
-use crate::items::Item;
-use crate::presence::Presence;
 use crate::store::{Store, key_at};
 use counted_heap::Heap;
 use flt_cbdq::{Entry, InsertFault};
-use flt_model::Key;
-use flt_ops::{ArriveFault, Way};
+use flt_model::{Holder, Item, Key, Presence, Way};
+use flt_ops::ArriveFault;
 use flt_rules::{Access, LockNumber, Mode, Operation};
 use flt_tree::ContextVariable;
 use std::alloc::AllocError;
@@ -348,8 +345,8 @@ impl Store {
         requires { IsPossible self.old (change.Detach filter) }
         ensures { self.new ≡ after_change self.old (change.Detach filter) }
     {
-        if let Some(instance) = self.presences.get_mut(filter) {
-            instance.presence = Presence::Detaching;
+        if let Some(presence) = self.presences.get_mut(filter) {
+            *presence = Presence::Detaching;
         }
         self.contexts.close(filter);
         self.queues.disable(filter);
@@ -359,8 +356,8 @@ impl Store {
         requires { IsPossible self.old (change.Finish filter) }
         ensures { self.new ≡ after_change self.old (change.Finish filter) }
     {
-        if let Some(instance) = self.presences.get_mut(filter) {
-            instance.presence = Presence::Detached;
+        if let Some(presence) = self.presences.get_mut(filter) {
+            *presence = Presence::Detached;
         }
     }
 }

@@ -8,21 +8,19 @@ ghost use Rattle.flt_model.specs.Locks as locks;
 ghost use Rattle.flt_model.specs.Moves as moves;
 ghost use Rattle.flt_model.specs.Settling as settling;
 ghost use Rattle.flt_model.specs.World as spec;
-ghost use Rattle.flt_model.specs.World.{Attached};
+ghost use Rattle.flt_model.specs.declared.parts.Presence.TheVariants.{Attached};
 ghost use Rattle.flt_ops.specs.Operating as operating;
-ghost use Rattle.flt_ops.specs.Parts.{position_of, outcome_of, way_of};
 ghost use Rattle.flt_model.specs.declared.moves.Key.{Key};
-ghost use Rattle.flt_machine_store.specs.Parts.{entry_of, key_of, link_of, presence_of};
+ghost use Rattle.flt_machine_store.specs.Parts.{entry_of, key_of, link_of};
 ghost use Rattle.flt_machine_store.specs.Stores.{empty_store, is_emptied, order_of};
 
 use crate::holders::{Holders, unheld};
-use crate::items::{Item, WorkItems};
-use crate::presence::{Instance, Presence};
+use crate::items::WorkItems;
 use counted_heap::Heap;
 use flt_cbdq::{Entry, Queues};
 use flt_ctx::{Contexts, Key as At, Target};
-use flt_model::Key;
-use flt_ops::{Arrival, Frame, Operations, Outcome, Position, Visit, Way};
+use flt_model::{Arrival, Item, Key, Outcome, Position, Presence, Way};
+use flt_ops::{Frame, Operations, Visit};
 use flt_rules::{Access, LockNumber};
 use std::alloc::AllocError;
 use std::marker::Model;
@@ -30,7 +28,7 @@ use std::marker::Model;
 /// The state that activations share. Presences, queues and lock holders are by filter; contracts see it as the machine's own store.
 #[derive(Drop)]
 pub struct Store {
-    pub(crate) presences: Vec<Instance>,
+    pub(crate) presences: Vec<Presence>,
     pub(crate) queues: Queues,
     /// No visit with a greater number was ever put into a queue.
     pub(crate) greatest_queued: usize,
@@ -65,17 +63,14 @@ impl Model for Store {
 }
 
 /// So many filters, each attached.
-fn all_attached(heap: &mut Heap, filters: usize) -> Result<Vec<Instance>, AllocError>
+fn all_attached(heap: &mut Heap, filters: usize) -> Result<Vec<Presence>, AllocError>
     ensures attached { IfOk result (λ presences. presences.items ≡ replicate filters Attached) }
     ensures granted { OnOk result (heap.new ≡ heap.old) }
     ensures memory { OnErr result (heap.new ≢ heap.old) }
 {
     let mut presences = Vec::new(heap.alloc());
     for _ in 0..filters {
-        let instance = Instance {
-            presence: Presence::Attached,
-        };
-        heap.push(&mut presences, instance)?;
+        heap.push(&mut presences, Presence::Attached)?;
     }
     Ok(presences)
 }
@@ -128,10 +123,10 @@ impl Store {
     }
 
     fn presence(&self, filter: usize) -> Presence
-        ensures { presence_of result ≡ spec.presence_at self.now filter }
+        ensures { result ≡ spec.presence_at self.now filter }
     {
         match self.presences.get(filter) {
-            Some(instance) => instance.presence,
+            Some(presence) => *presence,
             None => Presence::Detached,
         }
     }
@@ -312,7 +307,7 @@ impl Store {
 
     /// The position of an operation. One that isn't there is up.
     pub fn position(&self, serial: u32) -> Position
-        ensures { position_of result ≡ (spec.route_at self.now serial).position }
+        ensures { result ≡ (spec.route_at self.now serial).position }
     {
         self.operations.position(serial)
     }
@@ -326,7 +321,7 @@ impl Store {
 
     /// How an operation ended at its lowest point, from the moment at which it goes up.
     pub fn outcome(&self, serial: u32) -> Option<Outcome>
-        ensures { option_map outcome_of result ≡ (spec.route_at self.now serial).outcome }
+        ensures { result ≡ (spec.route_at self.now serial).outcome }
     {
         self.operations.outcome(serial)
     }
@@ -419,7 +414,7 @@ impl Store {
 
     /// Whether settling a visit by this `Way` makes a frame, which takes the completion context over.
     pub fn makes_frame(&self, visit: usize, way: Way) -> bool
-        ensures { result ≡ settling.makes_frame self.now visit (way_of way) }
+        ensures { result ≡ settling.makes_frame self.now visit way }
     {
         self.operations.makes_frame(visit, way)
     }

@@ -9,7 +9,7 @@ ghost use Rattle.flt_tree.specs.WellFormed.{IsWellFormed};
 
 use counted_heap::Heap;
 use flt_machine::{Advanced, ApplyFault, Board, Commit, Loaded, Outcome, advance};
-use flt_model::{Journal, JournalEntry, Move, Subject, Verdict, Violation, read};
+use flt_model::{Journal, JournalEntry, Move, Subject, Verdict, read};
 use flt_replay::replay;
 use flt_rules::FinalStatus;
 use flt_stack_core::one::turn;
@@ -96,20 +96,7 @@ pub(crate) fn finding(
     match replay(alloc, trees.as_slice(), journal)? {
         Verdict::Legal => Ok(None),
         Verdict::NotARun(number) => Ok(Some((0, number))),
-        Verdict::Breaks(violation, number) => Ok(Some((number_of(violation), number))),
-    }
-}
-
-fn number_of(violation: Violation) -> u8 {
-    match violation {
-        Violation::V1 => 1,
-        Violation::V2 => 2,
-        Violation::V3 => 3,
-        Violation::V4 => 4,
-        Violation::V5 => 5,
-        Violation::V6 => 6,
-        Violation::V7 => 7,
-        Violation::V8 => 8,
+        Verdict::Breaks(violation, number) => Ok(Some((violation.number(), number))),
     }
 }
 

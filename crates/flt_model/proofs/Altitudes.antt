@@ -1,31 +1,14 @@
 -- Equal altitudes among filters: which is the first that an earlier one has, and where a filter goes.
-use Rattle.std.proofs.Common.{◌≡◌, ◌≢◌, ◌==◌, ℕ, zero, suc, ◌+◌, ◌<◌, ◌≤◌, Bool, true, false, ◌||◌, List, []}
-use Rattle.std.proofs.Common.{◌∷◌, ◌++◌, Some, if◌then◌else◌, insert, nat_lt, not, one-add, length, get_or}
-use Rattle.std.proofs.Common.{take, drop, map, refl, sym, ap, ◌∙◌, arith, eqb-true, eq-eqb, slice_get}
-use Rattle.std.proofs.lemmas.List.{take-append-drop, drop_more, map-append, map_more, length-take-le, length-map, take_all}
+use Rattle.std.proofs.Common.{◌≡◌, ◌≢◌, ◌==◌, ℕ, zero, suc, ◌+◌, ◌<◌, ◌≤◌, Bool, true, false, ◌||◌, List, [], ◌∷◌, ◌++◌, Some}
+use Rattle.std.proofs.Common.{if◌then◌else◌, insert, nat_lt, not, one-add, length, get_or, take, drop, map, refl, sym, ap, ◌∙◌, arith}
+use Rattle.std.proofs.Common.{eqb-true, eq-eqb, slice_get}
+use Rattle.std.proofs.lemmas.List.{take_all}
 use Rattle.std.proofs.lemmas.List.Quantifiers.{all_pairs_push}
 use Rattle.std.specs.List.{list_any}
+use Rattle.flt_tree.proofs.Parts.{one_more, parted, places_before}
 use Rattle.flt_tree.specs.declared.filter.Filter.{Filter}
 use Rattle.flt_tree.specs.declared.tree.Tree.{Tree}
 use Rattle.flt_model.specs.Program.{HasDistinctAltitudes, IsRepeated, filters_of, first_lower, put_by_altitude}
-
--- ---- the parts of a list at a place
-
-module _ {X Y : Type 0} (f : X → Y) (xs : List X) (i : ℕ) (x d : X) (h : i < length xs) (at : x ≡ get_or xs i d) where
-  pub one_more : map f (take (i + 1) xs) ≡ map f (take i xs) ++ f x ∷ []
-  one_more = rw at (map_more f xs i d h)
-
-  pub parted : map f xs ≡ map f (take i xs) ++ f x ∷ map f (drop (i + 1) xs)
-  parted =
-      let rest : map f (drop i xs) ≡ f (get_or xs i d) ∷ map f (drop (i + 1) xs) = ap (map f) (drop_more xs i d h) in
-      let whole : map f xs ≡ map f (take i xs) ++ map f (drop i xs) = sym (ap (map f) (take-append-drop i xs))
-      ∙ map-append f (take i xs) (drop i xs) in
-      rw at (rw rest at whole)
-
-  pub places_before : i ≡ length (map f (take i xs))
-  places_before =
-      let front : length (take i xs) ≡ i = length-take-le i xs (omega arith) in
-      sym (length-map (take i xs) f ∙ front)
 
 -- ---- the altitudes
 

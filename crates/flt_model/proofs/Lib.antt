@@ -1,6 +1,8 @@
 pub mod Altitudes
 pub mod CleanRuns
 pub mod FirstFaults
+pub mod LastFrames
+pub mod LocalCosts
 pub mod LocalLaws
 pub mod LockLaws
 mod DecimalDigits

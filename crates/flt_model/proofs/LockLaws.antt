@@ -28,6 +28,7 @@ use Rattle.flt_tree.specs.declared.filter.FallibleCall.TheVariants as fallible
 use Rattle.flt_tree.specs.declared.filter.Filter.{Filter}
 use Rattle.flt_tree.specs.declared.filter.PlainCall.{PlainCall}
 use Rattle.flt_tree.specs.declared.filter.PlainCall.TheVariants as plain
+use Rattle.flt_tree.specs.declared.filter.Routine.{Routine}
 use Rattle.flt_tree.specs.declared.filter.Span.{Span}
 use Rattle.flt_tree.specs.declared.filter.Statement.{Statement, out-Statement}
 use Rattle.flt_tree.specs.declared.filter.Statement.TheOpen.{Statement-F}
@@ -318,7 +319,7 @@ module _ (w : World) (a : ℕ) where
       returns_leaves : (st : Option Status) → Leaves (returns p t w a st)
       returns_leaves st = returned_leaves st (answers (actor_at w a).place) (operation_in here Data)
 
-      fallible_leaves : (grant : Bool) (granted refused : List Statement) (c : FallibleCall) →
+      fallible_leaves : (grant : Bool) (granted refused : List Statement) (c : FallibleCall Routine) →
           Leaves (fallible_step p t w a grant granted refused c)
       fallible_leaves grant granted refused (fallible.AllocateContext d) = allocate_leaves d grant granted refused
       fallible_leaves grant granted refused (fallible.GetContext on d) =

@@ -13,6 +13,7 @@ pub mod Moves
 pub mod Steps
 pub mod Levels
 pub mod Statuses
+pub mod Verdicts
 pub mod Violations
 pub mod Runs
 pub mod Expansion

@@ -9,21 +9,13 @@ use Rattle.flt_tree.specs.declared.filter.Status.TheVariants as status
 use Rattle.flt_model.specs.declared.event.Answer.{Answer}
 use Rattle.flt_model.specs.declared.event.Answer.TheVariants.{Returned, CompletesPre, CompletesPost}
 use Rattle.flt_model.specs.Program.{callbacks_at, has_post}
-use Rattle.flt_model.specs.World.{Outcome, Completed, Disallowed, Down, Up, Route, Store}
+use Rattle.flt_model.specs.World.{Completed, Disallowed, Down, Up, Route, Store}
 use Rattle.flt_model.specs.World.{visit_at, arrival_of, route_at, is_settled, with_route}
-
 -- where a status leads the operation
-pub data Way : Type 0 where
-  -- on to the next filter
-  Passes : Way
-  -- on to the next filter, with a frame for the post callback
-  Frames : Way
-  -- up from here
-  Ends : (outcome : Outcome) → Way
-  -- on up, after a post callback
-  Rises : Way
-  -- nowhere: the filter keeps the operation
-  Stays : Way
+pub use Rattle.flt_model.specs.declared.settling.Way.{Way}
+-- on to the next filter; there with a frame for the post callback; up from here; on up, after a post callback; nowhere, where the filter
+-- keeps the operation
+pub use Rattle.flt_model.specs.declared.settling.Way.TheVariants.{Passes, Frames, Ends, Rises, Stays}
 
 -- the status that an answer gives, and whether a callback returned it
 abbrev pub given_by : Answer → Option Status

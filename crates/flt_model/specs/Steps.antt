@@ -3,6 +3,7 @@ use Rattle.std.specs.Prelude.{ℕ, Bool, true, false, ◌&&◌, ◌||◌, if◌t
 use Rattle.flt_rules.specs.declared.call.LockNumber.{LockNumber}
 use Rattle.flt_rules.specs.declared.held.Access.{Access}
 use Rattle.flt_rules.specs.declared.held.Access.TheVariants.{Exclusive, Shared}
+use Rattle.flt_tree.specs.Registered.{numbered}
 use Rattle.flt_tree.specs.declared.filter.Action.{Action}
 use Rattle.flt_tree.specs.declared.filter.Action.TheVariants as action
 use Rattle.flt_tree.specs.declared.filter.Condition.{Condition}
@@ -12,6 +13,7 @@ use Rattle.flt_tree.specs.declared.filter.FallibleCall.TheVariants as fallible
 use Rattle.flt_tree.specs.declared.filter.Filter.{Filter}
 use Rattle.flt_tree.specs.declared.filter.PlainCall.{PlainCall}
 use Rattle.flt_tree.specs.declared.filter.PlainCall.TheVariants as plain
+use Rattle.flt_tree.specs.declared.filter.Routine.{Routine}
 use Rattle.flt_tree.specs.declared.filter.Statement.{Statement, out-Statement}
 use Rattle.flt_tree.specs.declared.filter.Statement.TheOpen.{Statement-F}
 use Rattle.flt_tree.specs.declared.filter.Test.{Test}
@@ -24,7 +26,7 @@ use Rattle.flt_model.specs.Effects.{Step}
 use Rattle.flt_model.specs.LocalSteps.{local_step}
 use Rattle.flt_model.specs.Locks.{holders_of, is_free_for}
 use Rattle.flt_model.specs.Moves.{make}
-use Rattle.flt_model.specs.Program.{callbacks_at, routine_of}
+use Rattle.flt_model.specs.Program.{callbacks_at}
 use Rattle.flt_model.specs.Reads.{read_value, write_value, read_file, test_irp}
 use Rattle.flt_model.specs.Returns.{returns}
 use Rattle.flt_model.specs.World.{World, Activation, activation_at, actor_at}
@@ -39,7 +41,7 @@ pub data Transition : Type 0 where
 -- ---- which choice there is
 
 -- an allocation or a work item may be refused by the system; all else is decided by the world
-abbrev pub may_be_refused : FallibleCall → Bool
+abbrev pub may_be_refused : FallibleCall Routine → Bool
 may_be_refused (fallible.AllocateContext d) = true
 may_be_refused (fallible.QueueDeferredIoWorkItem r c) = true
 may_be_refused (fallible.QueueGenericWorkItem r c) = true
@@ -63,6 +65,17 @@ may_go w a grant _ = grant
 
 -- ---- steps that others see; a local one is none
 
+-- a call that can fail, which names its routine by number
+abbrev pub numbered_step : World → ℕ → Bool → List Statement → List Statement → FallibleCall ℕ → Step
+numbered_step w a grant granted refused (fallible.AllocateContext d) = allocate w a d grant granted refused
+numbered_step w a grant granted refused (fallible.GetContext on d) = get w a on d granted refused
+numbered_step w a grant granted refused (fallible.SetContext on existing c old) = set_context w a on existing c old granted refused
+numbered_step w a grant granted refused (fallible.DeleteContextOf on old) = delete_at w a on old granted refused
+numbered_step w a grant granted refused (fallible.InsertIo c) = insert w a c granted refused
+numbered_step w a grant granted refused (fallible.RemoveNextIo o d) = remove_next w a o d granted refused
+numbered_step w a grant granted refused (fallible.QueueDeferredIoWorkItem n c) = queue_deferred w a n c grant granted refused
+numbered_step w a grant granted refused (fallible.QueueGenericWorkItem n c) = queue_generic w a n c grant granted refused
+
 module _ (p : List Filter) (t : List Event) (w : World) (a : ℕ) where
   -- an action that others see
   abbrev pub act_step : List Statement → Action → Option Step
@@ -82,18 +95,10 @@ module _ (p : List Filter) (t : List Event) (w : World) (a : ℕ) where
   plain_step rest (plain.CompletePendedPreOperation d st) = complete_pre w a p d st rest
   plain_step rest plain.CompletePendedPostOperation = complete_post w a p rest
 
-  -- a call that can fail
-  abbrev pub fallible_step : Bool → List Statement → List Statement → FallibleCall → Step
-  fallible_step grant granted refused (fallible.AllocateContext d) = allocate w a d grant granted refused
-  fallible_step grant granted refused (fallible.GetContext on d) = get w a on d granted refused
-  fallible_step grant granted refused (fallible.SetContext on existing c old) = set_context w a on existing c old granted refused
-  fallible_step grant granted refused (fallible.DeleteContextOf on old) = delete_at w a on old granted refused
-  fallible_step grant granted refused (fallible.InsertIo c) = insert w a c granted refused
-  fallible_step grant granted refused (fallible.RemoveNextIo o d) = remove_next w a o d granted refused
-  fallible_step grant granted refused (fallible.QueueDeferredIoWorkItem r c) =
-      queue_deferred w a (routine_of (callbacks_at p (actor_at w a).filter) r) c grant granted refused
-  fallible_step grant granted refused (fallible.QueueGenericWorkItem r c) =
-      queue_generic w a (routine_of (callbacks_at p (actor_at w a).filter) r) c grant granted refused
+  -- a call that can fail, which names its routine by its name
+  abbrev pub fallible_step : Bool → List Statement → List Statement → FallibleCall Routine → Step
+  fallible_step grant granted refused c =
+      numbered_step w a grant granted refused (numbered (callbacks_at p (actor_at w a).filter) c)
 
   -- a test that others see
   abbrev pub test_step : List Statement → List Statement → Test → Option Step

@@ -51,7 +51,7 @@ call c = tree.Call here c
 abbrev pub return : Status → Statement
 return st = tree.Return here (Some st)
 
-abbrev pub if_call : FallibleCall → List Statement → List Statement → Statement
+abbrev pub if_call : FallibleCall Routine → List Statement → List Statement → Statement
 if_call c granted refused = tree.If here (condition.Succeeds c) granted refused
 
 abbrev pub if_test : Test → List Statement → List Statement → Statement

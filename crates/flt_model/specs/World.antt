@@ -1,31 +1,42 @@
 -- The world at one moment: what the filters, operations, visits, contexts, queues, work items and activations are. All are
 -- numbered from 0 in the order in which they came, and no number is used again; so what never changes stands in lists that
--- only grow. What isn't there has ended, is settled and counts nothing.
-use Rattle.std.specs.Prelude.{ℕ, ◌+◌, ◌-◌, Bool, true, false, ◌&&◌, ◌==◌, if◌then◌else◌, List}
-use Rattle.std.specs.Prelude.{[], Option, Some, None, get_or, set, replicate, position, map}
-use Rattle.flt_rules.specs.declared.held.Access.{Access}
+-- only grow. What isn't there has ended, is settled and counts nothing. The parts that programs keep as they are here are those of
+-- `src/parts.rt`.
+use Rattle.std.specs.Prelude.{ℕ, ◌+◌, ◌-◌, Bool, true, false, ◌&&◌, ◌==◌, if◌then◌else◌, List, [], Option, Some, None, get_or, set}
+use Rattle.std.specs.Prelude.{replicate, position, map}
 use Rattle.flt_rules.specs.declared.held.HeldLock.{HeldLock}
-use Rattle.flt_rules.specs.declared.place.Mode.{Mode}
 use Rattle.flt_rules.specs.declared.place.Mode.TheVariants.{Irp}
-use Rattle.flt_rules.specs.declared.place.Operation.{Operation}
 use Rattle.flt_rules.specs.declared.place.Operation.TheVariants.{Read}
 use Rattle.flt_rules.specs.declared.place.Place.{Place}
 use Rattle.flt_rules.specs.declared.place.Place.TheVariants.{Generic}
 use Rattle.flt_rules.specs.declared.place.Stage.{Stage}
 use Rattle.flt_rules.specs.declared.place.Stage.TheVariants.{Post}
-use Rattle.flt_rules.specs.declared.status.FinalStatus.{FinalStatus}
 use Rattle.flt_tree.specs.declared.filter.Filter.{Filter}
 use Rattle.flt_tree.specs.declared.filter.Statement.{Statement}
 use Rattle.flt_model.specs.declared.moves.Key.{Key}
 use Rattle.flt_model.specs.declared.moves.Key.TheVariants.{Stream, Instance}
+-- whether a filter's instance is there: teardown begins by detaching. Source: "Managing contexts", instance teardown callbacks
+pub use Rattle.flt_model.specs.declared.parts.Presence.{Presence}
+pub use Rattle.flt_model.specs.declared.parts.Presence.TheVariants.{Attached, Detaching, Detached}
+-- what stands in a cancel-safe queue: `visit`, a pended operation's, and `context`, or none. Source: FltCbdqInsertIo
+pub use Rattle.flt_model.specs.declared.parts.Entry.{Entry}
+-- what an operation is: its `kind`, `mode` and `file`; it never changes
+pub use Rattle.flt_model.specs.declared.parts.Arrival.{Arrival}
+-- where an operation stands: at a filter on its way down, or below the last one; in a visit; or on its way up
+pub use Rattle.flt_model.specs.declared.parts.Position.{Position}
+pub use Rattle.flt_model.specs.declared.parts.Position.TheVariants.{Down, Visiting, Up}
+-- how an operation ended at its lowest point: with a final status, or as a fast I/O that was disallowed
+pub use Rattle.flt_model.specs.declared.parts.Outcome.{Outcome}
+pub use Rattle.flt_model.specs.declared.parts.Outcome.TheVariants.{Completed, Disallowed}
+-- what a context is linked to: the stream or the instance, `key`, of a `filter`. Source: FltSetStreamContext, FltSetInstanceContext
+pub use Rattle.flt_model.specs.declared.parts.Link.{Link}
+-- a queued work item: a `routine` of a `filter` by the number of its callback, and the `visit` and the `context` that it hands over.
+-- Source: FltQueueDeferredIoWorkItem, FltQueueGenericWorkItem
+pub use Rattle.flt_model.specs.declared.parts.Item.{Item}
+-- an `activation` that holds a lock, and its `access`. Source: FltAcquirePushLockExclusive, FltAcquirePushLockShared
+pub use Rattle.flt_model.specs.declared.parts.Holder.{Holder}
 
 -- ---- filters
-
--- whether a filter's instance is there: teardown begins by detaching. Source: "Managing contexts", instance teardown callbacks
-pub data Presence : Type 0 where
-  Attached : Presence
-  Detaching : Presence
-  Detached : Presence
 
 -- the filter sees operations
 abbrev pub is_attached : Presence → Bool
@@ -37,29 +48,7 @@ abbrev pub is_detaching : Presence → Bool
 is_detaching Detaching = true
 is_detaching _ = false
 
--- what stands in a cancel-safe queue: a pended operation's visit, and a context. Source: FltCbdqInsertIo
-pub record Entry : Type 0 where
-  pub visit : ℕ
-  pub context : Option ℕ
-
 -- ---- operations and visits
-
--- what an operation is; it never changes
-pub record Arrival : Type 0 where
-  pub kind : Operation
-  pub mode : Mode
-  pub file : ℕ
-
--- where an operation stands: at a filter on its way down, or below the last one; in a visit; or on its way up
-pub data Position : Type 0 where
-  Down : (filter : ℕ) → Position
-  Visiting : Position
-  Up : Position
-
--- how an operation ended at its lowest point: with a final status, or as a fast I/O that was disallowed
-pub data Outcome : Type 0 where
-  Completed : (status : FinalStatus) → Outcome
-  Disallowed : Outcome
 
 -- a post callback that will be called, with its completion context. Source: FLT_PREOP_SUCCESS_WITH_CALLBACK
 pub record Frame : Type 0 where
@@ -82,24 +71,12 @@ pub record Visit : Type 0 where
 
 -- ---- contexts and work items
 
--- what a context is linked to: a stream or the instance of a filter. Source: FltSetStreamContext, FltSetInstanceContext
-pub record Link : Type 0 where
-  pub filter : ℕ
-  pub key : Key
-
 -- a context with the filter that allocated it; it is freed when its references are gone. Source: FltAllocateContext
 pub record Context : Type 0 where
   pub owner : ℕ
   pub references : ℕ
   pub value : ℕ
   pub link : Option Link
-
--- a queued work item: a routine by the number of its callback. Source: FltQueueDeferredIoWorkItem, FltQueueGenericWorkItem
-pub record Item : Type 0 where
-  pub filter : ℕ
-  pub routine : ℕ
-  pub visit : Option ℕ
-  pub context : Option ℕ
 
 -- ---- activations
 
@@ -118,11 +95,6 @@ pub record Activation : Type 0 where
   pub operations : List (Option ℕ)
   pub locks : List HeldLock
   pub ended : Bool
-
--- an activation that holds a lock, and how. Source: FltAcquirePushLockExclusive, FltAcquirePushLockShared
-pub record Holder : Type 0 where
-  pub activation : ℕ
-  pub access : Access
 
 -- ---- the world
 

@@ -5,8 +5,13 @@ use Rattle.std.specs.List.{list_any}
 use Rattle.std.proofs.lemmas.Bool.{cases_eq, cases_lt}
 use Rattle.std.proofs.lemmas.List.{get_or_past, get_or-set_same, get_or-set_other, get_or_append_left, get_or_push, length-set, set_past}
 use Rattle.flt_model.specs.Moves.{has_frame, is_frame_of, last_frame, without_last, other_frames}
-use Rattle.flt_model.specs.Settling.{Way, led}
-use Rattle.flt_model.specs.World.{Arrival, Down, Frame, Outcome, Position, Route, Up, Visit, Visiting, no_route, no_visit}
+use Rattle.flt_model.specs.declared.settling.Way.{Way}
+use Rattle.flt_model.specs.Settling.{led}
+use Rattle.flt_model.specs.declared.parts.Arrival.{Arrival}
+use Rattle.flt_model.specs.declared.parts.Outcome.{Outcome}
+use Rattle.flt_model.specs.declared.parts.Position.{Position}
+use Rattle.flt_model.specs.declared.parts.Position.TheVariants.{Down, Visiting, Up}
+use Rattle.flt_model.specs.World.{Frame, Route, Visit, no_route, no_visit}
 use Rattle.flt_ops.specs.Kept.{AreOperations, IsWithin}
 use Rattle.flt_ops.specs.Operating.{frame_in}
 use Rattle.flt_ops.specs.Unsettled.{VisitRows}

@@ -17,18 +17,6 @@ use Rattle.flt_ops.proofs.OtherFrames.{any_pushed, any_pushed_own, any_other, an
 
 -- ---- the last of some frames
 
--- it is the last one
-pub last_after : (frames : List Frame) (f : Frame) → last_frame (frames ++ f ∷ []) ≡ Some f
-last_after [] f = refl
-last_after (g ∷ []) f = refl
-last_after (g ∷ h ∷ frames) f = last_after (h ∷ frames) f
-
--- the others are without it
-pub without_after : (frames : List Frame) (f : Frame) → without_last (frames ++ f ∷ []) ≡ frames
-without_after [] f = refl
-without_after (g ∷ []) f = refl
-without_after (g ∷ h ∷ frames) f = ap (λ (l : List Frame). g ∷ l) (without_after (h ∷ frames) f)
-
 -- it is what stands at the end
 pub last_is : (frames : List Frame) → last_frame frames ≡ slice_get frames (length frames - 1)
 last_is [] = refl

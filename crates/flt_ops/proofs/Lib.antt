@@ -1,4 +1,3 @@
-pub mod FirstPlaces
 pub mod Counts
 pub mod Rows
 pub mod Framed

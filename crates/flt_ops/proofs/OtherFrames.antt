@@ -8,8 +8,9 @@ use Rattle.std.proofs.lemmas.List.{take_all, drop_all, append-nil}
 use Rattle.std.proofs.lemmas.List.Folds.{list_any-append}
 use Rattle.std.proofs.lemmas.List.Sums.{split_at_first, passes_at_first}
 use Rattle.flt_model.specs.Moves.{has_frame, is_frame_of, last_frame, without_last, other_frames}
-use Rattle.flt_model.specs.Settling as settling
-use Rattle.flt_model.specs.Settling.{Way, led}
+use Rattle.flt_model.specs.declared.settling.Way.TheVariants.{Passes, Frames, Ends, Rises, Stays}
+use Rattle.flt_model.specs.declared.settling.Way.{Way}
+use Rattle.flt_model.specs.Settling.{led}
 use Rattle.flt_model.specs.World.{Frame, Route}
 use Rattle.flt_ops.specs.Kept.{IsWithin}
 
@@ -157,21 +158,21 @@ found_of g (k ∷ frames) frame h = found_here g k frames frame (found_of g fram
 
 -- it is still at a filter, or right below the last
 pub led_within : (n f : ℕ) (x : Option ℕ) (way : Way) (r : Route) → f < n → IsWithin n r.position → IsWithin n (led f x way r).position
-led_within n f x settling.Passes r l h = omega arith
-led_within n f x settling.Frames r l h = omega arith
-led_within n f x (settling.Ends outcome) r l h = tt
-led_within n f x settling.Rises r l h = tt
-led_within n f x settling.Stays r l h = h
+led_within n f x Passes r l h = omega arith
+led_within n f x Frames r l h = omega arith
+led_within n f x (Ends outcome) r l h = tt
+led_within n f x Rises r l h = tt
+led_within n f x Stays r l h = h
 
 -- its frames are of filters that there are
 pub led_framed : (n f : ℕ) (x : Option ℕ) (way : Way) (r : Route) → f < n → ((g : ℕ) → has_frame g r ≡ true → g < n) → (g : ℕ) →
     has_frame g (led f x way r) ≡ true → g < n
-led_framed n f x settling.Passes r l h g e = h g e
-led_framed n f x settling.Frames r l h g e =
+led_framed n f x Passes r l h g e = h g e
+led_framed n f x Frames r l h g e =
     elim (cases_eq g f) [
       | inl same ↦ omega arith
       | inr differs ↦ h g (sym (any_pushed g r.frames (record { filter = f; context = x }) differs) ∙ e)
     ]
-led_framed n f x (settling.Ends outcome) r l h g e = h g e
-led_framed n f x settling.Rises r l h g e = h g e
-led_framed n f x settling.Stays r l h g e = h g e
+led_framed n f x (Ends outcome) r l h g e = h g e
+led_framed n f x Rises r l h g e = h g e
+led_framed n f x Stays r l h g e = h g e

@@ -2,7 +2,10 @@
 use Rattle.std.specs.Prelude.{◌≡◌, ℕ, ◌<◌, ◌≤◌, true, List, length, get_or}
 use Rattle.std.specs.BTreeSet.{BTreeSet}
 use Rattle.flt_model.specs.Moves.{has_frame}
-use Rattle.flt_model.specs.World.{Arrival, Down, Position, Route, no_route, no_visit}
+use Rattle.flt_model.specs.declared.parts.Arrival.{Arrival}
+use Rattle.flt_model.specs.declared.parts.Position.{Position}
+use Rattle.flt_model.specs.declared.parts.Position.TheVariants.{Down}
+use Rattle.flt_model.specs.World.{Route, no_route, no_visit}
 use Rattle.pair_set.specs.Pairs.{has}
 use Rattle.flt_ops.specs.Unsettled.{VisitRows}
 use Rattle.flt_rules.specs.Limits.{max_operations}

@@ -1,4 +1,3 @@
-pub mod Parts
 pub mod Unsettled
 pub mod Numbered
 pub mod Operating

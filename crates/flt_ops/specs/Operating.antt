@@ -2,7 +2,10 @@
 use Rattle.std.specs.Prelude.{◌≡◌, ℕ, ◌+◌, Bool, true, false, not, nat_lt, if◌then◌else◌, List, [], length, Option, Some, None, MatchOption}
 use Rattle.flt_rules.specs.declared.place.Stage.TheVariants as stage
 use Rattle.flt_model.specs.Moves as moves
-use Rattle.flt_model.specs.World.{Arrival, Down, Frame, Position, Route, Store, Up, Visit, Visiting, route_at, with_route}
+use Rattle.flt_model.specs.declared.parts.Arrival.{Arrival}
+use Rattle.flt_model.specs.declared.parts.Position.{Position}
+use Rattle.flt_model.specs.declared.parts.Position.TheVariants.{Down, Visiting, Up}
+use Rattle.flt_model.specs.World.{Frame, Route, Store, Visit, route_at, with_route}
 use Rattle.flt_ops.specs.declared.parts.CallbackStart.{CallbackStart}
 
 -- the parts of the machine's store that are of operations, and how many filters there are

@@ -18,6 +18,6 @@ mod visit_rows;
 
 pub use fault::ArriveFault;
 pub use operations::Operations;
-pub use parts::{Arrival, CallbackStart, Frame, Outcome, Position, Visit, Way};
+pub use parts::{CallbackStart, Frame, Visit};
 /// The answer of a call that was refused memory.
 pub use std::alloc::AllocError as OutOfMemory;

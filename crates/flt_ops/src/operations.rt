@@ -1,23 +1,23 @@
 //! Operations, with the calls that move them.
 
 ghost use Rattle.std.specs.Prelude.{◌≡◌, ◌≢◌, ◌↔◌, ◌≤◌, true, false, not, ◌||◌, ◌&&◌, length, slice_get, get_or, set, find, position};
-ghost use Rattle.std.specs.Prelude.{option_map, is_some, if◌then◌else◌, Some, None, Err, OnOk, OnErr, IfOk, MatchOption};
+ghost use Rattle.std.specs.Prelude.{is_some, if◌then◌else◌, Some, None, Err, OnOk, OnErr, IfOk, MatchOption};
 ghost use Rattle.flt_model.specs.Moves as moves;
 ghost use Rattle.flt_model.specs.Settling as settling;
 ghost use Rattle.flt_model.specs.World as machine;
 ghost use Rattle.flt_ops.specs.Operating.{store_of, after, no_operations, route_of, filter_at, is_past_filters, frame_at, in_pre_visit};
 ghost use Rattle.flt_ops.specs.Operating.{past_filter, lowered, in_post_visit, in_draining_visit, with_cancel, IsStarted};
 ghost use Rattle.flt_ops.specs.Numbered.{numbers_of};
-ghost use Rattle.flt_ops.specs.Parts.{position_of, outcome_of, way_of};
 ghost use Rattle.flt_ops.specs.declared.fault.ArriveFault.TheVariants as fault;
 ghost use Rattle.flt_rules.specs.Limits.{max_operations};
 
 use crate::OutOfMemory;
 use crate::fault::ArriveFault;
-use crate::parts::{Arrival, CallbackStart, Frame, Outcome, Position, Visit, Way};
+use crate::parts::{CallbackStart, Frame, Visit};
 use crate::route_rows::Routes;
 use crate::visit_rows::Visits;
 use counted_heap::Heap;
+use flt_model::{Arrival, Outcome, Position, Way};
 use flt_rules::{FinalStatus, MAX_OPERATIONS, Mode, Operation, Stage};
 use std::alloc::Global;
 use std::marker::Model;
@@ -97,7 +97,7 @@ impl Operations {
 
     /// The position of an operation. One that isn't there is up.
     pub fn position(&self, serial: u32) -> Position
-        ensures { position_of result ≡ (route_of self.now serial).position }
+        ensures { result ≡ (route_of self.now serial).position }
     {
         self.routes.position(serial)
     }
@@ -111,7 +111,7 @@ impl Operations {
 
     /// How an operation ended at its lowest point, from the moment at which it goes up.
     pub fn outcome(&self, serial: u32) -> Option<Outcome>
-        ensures { option_map outcome_of result ≡ (route_of self.now serial).outcome }
+        ensures { result ≡ (route_of self.now serial).outcome }
     {
         self.routes.outcome(serial)
     }
@@ -177,9 +177,9 @@ impl Operations {
 
     /// Whether `settle` would make a frame, which takes the completion context over.
     pub fn makes_frame(&self, visit: usize, way: Way) -> bool
-        ensures { result ≡ settling.makes_frame (store_of self.now) visit (way_of way) }
+        ensures { result ≡ settling.makes_frame (store_of self.now) visit way }
     {
-        matches!(way, Way::Frames) && self.is_led(visit)
+        way.asks_for_frame() && self.is_led(visit)
     }
 
     /// The filter that an operation is at while it goes down.
@@ -400,7 +400,7 @@ impl Operations {
         context: Option<usize>,
         way: Way,
     ) -> Result<(), OutOfMemory>
-        ensures led { OnOk result (self.new ≡ after (λ s. settling.lead s visit context (way_of way)) self.old) }
+        ensures led { OnOk result (self.new ≡ after (λ s. settling.lead s visit context way) self.old) }
         ensures refused { OnErr result (self.new ≡ self.old) }
         ensures granted { OnOk result (heap.new ≡ heap.old) }
         ensures memory { OnErr result (heap.new ≢ heap.old) }
@@ -422,12 +422,12 @@ impl Operations {
         context: Option<usize>,
         way: Way,
     ) -> Result<(), OutOfMemory>
-        ensures settled { OnOk result (self.new ≡ after (λ s. settling.settled_by s visit context (way_of way)) self.old) }
+        ensures settled { OnOk result (self.new ≡ after (λ s. settling.settled_by s visit context way) self.old) }
         ensures refused { OnErr result (self.new ≡ self.old) }
         ensures granted { OnOk result (heap.new ≡ heap.old) }
         ensures memory { OnErr result (heap.new ≢ heap.old) }
     {
-        if matches!(way, Way::Stays) {
+        if !way.settles_visit() {
             return Ok(());
         }
         self.lead(heap, visit, context, way)?;

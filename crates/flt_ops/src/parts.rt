@@ -1,60 +1,8 @@
 //! The parts of operations, one struct for each record of the machine.
 
-use flt_rules::{FinalStatus, Mode, Operation, Stage};
+use flt_model::{Outcome, Position};
+use flt_rules::Stage;
 use std::marker::Model;
-
-/// The position of an operation.
-#[derive(Clone, Copy)]
-pub enum Position {
-    /// Going down, at a filter or below the last one. Filters are numbered from the highest altitude.
-    Down(usize),
-    /// In a visit.
-    Visiting,
-    /// Going up.
-    Up,
-}
-
-/// How an operation ended at its lowest point.
-#[derive(Clone, Copy)]
-pub enum Outcome {
-    /// With a final status.
-    Completed(FinalStatus),
-    /// As a fast I/O that was disallowed.
-    Disallowed,
-}
-
-/// Where a status leads the operation of a visit.
-#[derive(Clone, Copy)]
-pub enum Way {
-    /// On to the next filter.
-    Passes,
-    /// On to the next filter, with a frame for the post callback.
-    Frames,
-    /// Up from here.
-    Ends(Outcome),
-    /// On up, after a post callback.
-    Rises,
-    /// Nowhere: the filter keeps the operation.
-    Stays,
-}
-
-/// The kind, mode and file of an operation; they never change.
-#[derive(Clone, Copy)]
-pub struct Arrival {
-    pub kind: Operation,
-    pub mode: Mode,
-    pub file: u32,
-}
-
-impl Model for Arrival {
-    ghost use Rattle.flt_model.specs.World as machine;
-
-    ghost Value = { machine.Arrival };
-
-    ghost view = { λ a. record { kind = a.kind; mode = a.mode; file = a.file } };
-
-    ghost inverse = { λ a. record { kind = a.kind; mode = a.mode; file = a.file } };
-}
 
 /// A post callback that will be called, with its completion context.
 #[derive(Clone, Copy)]
@@ -88,15 +36,7 @@ impl Model for Route {
 
     ghost Value = { machine.Route };
 
-    ghost use Rattle.std.specs.Prelude.{option_map};
-    ghost use Rattle.flt_ops.specs.Parts.{position_of, outcome_of};
-
-    ghost view = { λ r. record {
-      position = position_of r.position;
-      frames = r.frames.items;
-      cancelled = r.cancelled;
-      outcome = option_map outcome_of r.outcome;
-    } };
+    ghost view = { λ r. record { position = r.position; frames = r.frames.items; cancelled = r.cancelled; outcome = r.outcome } };
 }
 
 /// One passing of an operation through a filter, before or after those below it; it never changes.

@@ -1,14 +1,16 @@
 //! How far each operation has come, with the set of its frames by filter.
 
-ghost use Rattle.std.specs.Prelude.{◌≡◌, ◌≢◌, ℕ, ◌<◌, ◌+◌, true, false, List, [], ◌∷◌, ◌++◌, length, set};
-ghost use Rattle.std.specs.Prelude.{get_or, find, position, option_map, Some, None, OnOk, OnErr, IfOk};
+ghost use Rattle.std.specs.Prelude.{◌≡◌, ◌≢◌, ℕ, ◌<◌, ◌+◌, true, false, List, [], ◌∷◌, ◌++◌, length, set, get_or, find, position, Some};
+ghost use Rattle.std.specs.Prelude.{None, OnOk, OnErr, IfOk};
 ghost use Rattle.flt_model.specs.Moves as moves;
 ghost use Rattle.flt_model.specs.Settling as settling;
+ghost use Rattle.flt_model.specs.declared.settling.Way.TheVariants.{Frames};
 ghost use Rattle.flt_model.specs.World as machine;
-ghost use Rattle.flt_ops.specs.Parts.{position_of, outcome_of, way_of};
+ghost use Rattle.flt_model.specs.declared.parts.Position.TheVariants.{Down, Visiting, Up};
 
-use crate::parts::{Frame, Outcome, Position, Route, Way};
+use crate::parts::{Frame, Route};
 use counted_heap::Heap;
+use flt_model::{Outcome, Position, Way};
 use flt_rules::FinalStatus;
 use pair_set::PairSet;
 use std::alloc::{AllocError, Global};
@@ -46,7 +48,7 @@ impl Route {
     }
 
     /// The first frame of a filter.
-    #[tactic(auto, using(crate::proofs::FirstPlaces::found_there, crate::proofs::FirstPlaces::none_found, crate::proofs::FirstPlaces::within))]
+    #[tactic(auto, using(flt_tree::proofs::FirstPlaces::found_at, flt_tree::proofs::FirstPlaces::none_found, flt_tree::proofs::FirstPlaces::within))]
     fn first_frame(&self, filter: usize) -> Option<Frame>
         ensures { result ≡ find (moves.is_frame_of filter) self.now.frames }
     {
@@ -57,10 +59,10 @@ impl Route {
     }
 
     /// The last frame is taken off, and the operation is in a visit.
-    #[tactic(auto, using(crate::proofs::Framed::last_after, crate::proofs::Framed::without_after))]
+    #[tactic(auto, using(flt_model::proofs::LastFrames::last_after, flt_model::proofs::LastFrames::without_after))]
     fn take_last(&mut self) -> Option<Frame>
         ensures last { result ≡ moves.last_frame self.old.frames }
-        ensures others { self.new ≡ record self.old { position = machine.Visiting; frames = moves.without_last self.old.frames } }
+        ensures others { self.new ≡ record self.old { position = Visiting; frames = moves.without_last self.old.frames } }
     {
         self.position = Position::Visiting;
         self.frames.pop()
@@ -88,7 +90,7 @@ fn first_place(frames: &[Frame], filter: usize) -> Option<usize>
 }
 
 /// Takes the first frame of a filter out.
-#[tactic(auto, using(crate::proofs::FirstPlaces::without, crate::proofs::FirstPlaces::none_goes, crate::proofs::FirstPlaces::within))]
+#[tactic(auto, using(flt_tree::proofs::FirstPlaces::without, flt_tree::proofs::FirstPlaces::none_goes, flt_tree::proofs::FirstPlaces::within))]
 fn take_first(frames: &mut Vec<Frame>, filter: usize)
     ensures { frames.new.items ≡ moves.other_frames filter frames.old.items }
 {
@@ -99,7 +101,7 @@ fn take_first(frames: &mut Vec<Frame>, filter: usize)
 
 /// How far one has come as it arrives.
 fn arrived(alloc: Global) -> Route
-    ensures { result ≡ record { position = machine.Down 0; frames = []; cancelled = false; outcome = None } }
+    ensures { result ≡ record { position = Down 0; frames = []; cancelled = false; outcome = None } }
 {
     Route {
         position: Position::Down(0),
@@ -124,7 +126,7 @@ impl Routes {
 
     /// The position of an operation; one that isn't there is up.
     pub(crate) fn position(&self, operation: u32) -> Position
-        ensures { position_of result ≡ (get_or self.now operation machine.no_route).position }
+        ensures { result ≡ (get_or self.now operation machine.no_route).position }
     {
         match self.routes.get(operation as usize) {
             Some(route) => route.position,
@@ -144,7 +146,7 @@ impl Routes {
 
     /// How an operation ended at its lowest point, if it did.
     pub(crate) fn outcome(&self, operation: u32) -> Option<Outcome>
-        ensures { option_map outcome_of result ≡ (get_or self.now operation machine.no_route).outcome }
+        ensures { result ≡ (get_or self.now operation machine.no_route).outcome }
     {
         match self.routes.get(operation as usize) {
             Some(route) => route.outcome,
@@ -196,7 +198,7 @@ impl Routes {
     /// Adds an operation, at the highest filter.
     pub(crate) fn add(&mut self, heap: &mut Heap) -> Result<(), AllocError>
         ensures ok { OnOk result (self.new ≡ self.old
-            ++ record { position = machine.Down 0; frames = []; cancelled = false; outcome = None } ∷ []) }
+            ++ record { position = Down 0; frames = []; cancelled = false; outcome = None } ∷ []) }
         ensures refused { OnErr result (self.new ≡ self.old) }
         ensures granted { OnOk result (heap.new ≡ heap.old) }
         ensures memory { OnErr result (heap.new ≢ heap.old) }
@@ -208,7 +210,7 @@ impl Routes {
     /// Sets the position of an operation.
     pub(crate) fn set_position(&mut self, operation: u32, position: Position)
         ensures { self.new ≡ set self.old operation
-            (record (get_or self.old operation machine.no_route) { position = position_of position }) }
+            (record (get_or self.old operation machine.no_route) { position = position }) }
     {
         if let Some(route) = self.routes.get_mut(operation as usize) {
             route.position = position;
@@ -218,7 +220,7 @@ impl Routes {
     /// The operation goes up from here, with this outcome.
     pub(crate) fn end(&mut self, operation: u32, outcome: Outcome)
         ensures { self.new ≡ set self.old operation
-            (record (get_or self.old operation machine.no_route) { position = machine.Up; outcome = Some (outcome_of outcome) }) }
+            (record (get_or self.old operation machine.no_route) { position = Up; outcome = Some outcome }) }
     {
         if let Some(route) = self.routes.get_mut(operation as usize) {
             route.position = Position::Up;
@@ -245,7 +247,7 @@ impl Routes {
     ) -> Result<(), AllocError>
         requires { filter < usize.MAX }
         ensures ok { OnOk result (self.new ≡ set self.old operation
-            (settling.led filter context settling.Frames (get_or self.old operation machine.no_route))) }
+            (settling.led filter context Frames (get_or self.old operation machine.no_route))) }
         ensures refused { OnErr result (self.new ≡ self.old) }
         ensures granted { OnOk result (heap.new ≡ heap.old) }
         ensures memory { OnErr result (heap.new ≢ heap.old) }
@@ -270,7 +272,7 @@ impl Routes {
     ) -> Result<(), AllocError>
         requires { filter < usize.MAX }
         ensures ok { OnOk result (self.new ≡ set self.old operation
-            (settling.led filter context (way_of way) (get_or self.old operation machine.no_route))) }
+            (settling.led filter context way (get_or self.old operation machine.no_route))) }
         ensures refused { OnErr result (self.new ≡ self.old) }
         ensures granted { OnOk result (heap.new ≡ heap.old) }
         ensures memory { OnErr result (heap.new ≢ heap.old) }
@@ -290,7 +292,7 @@ impl Routes {
     pub(crate) fn pop_frame(&mut self, operation: u32)
         ensures { self.new ≡ set self.old operation
             (record (get_or self.old operation machine.no_route) {
-              position = machine.Visiting;
+              position = Visiting;
               frames = moves.without_last (get_or self.old operation machine.no_route).frames;
             }) }
     {

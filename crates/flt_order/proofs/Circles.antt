@@ -17,6 +17,7 @@ use Rattle.flt_rules.specs.declared.call.LockNumber.{LockNumber}
 use Rattle.flt_rules.specs.declared.rule.Rule.{Rule}
 use Rattle.flt_rules.specs.declared.rule.Rule.TheVariants.{R01}
 use Rattle.flt_graph.specs.Graph.{instruction_at, points_at}
+use Rattle.flt_graph.specs.Instruction.{roles}
 use Rattle.flt_graph.specs.declared.graph.Graph.{Graph}
 use Rattle.flt_graph.specs.declared.instruction.Instruction.{Instruction}
 use Rattle.flt_graph.specs.declared.instruction.Instruction.TheVariants as instruction
@@ -201,7 +202,7 @@ call_taking x l _ o e f h = absurd (cc)
 taking : (s : Setting) (x : State) (i : Instruction) (l : LockNumber) → taken_by i ≡ Some l → first_broken s x i ≡ None →
     holds_lock l x.locks ≡ true → ⊥
 taking s x (instruction.Call c granted failed) l e f h =
-    call_taking x l c.call c.lock e (fails_at (breaks s x (instruction.Call c granted failed)) rules 10 f (omega arith)) h
+    call_taking x l (roles c).call (roles c).lock e (fails_at (breaks s x (instruction.Call c granted failed)) rules 10 f (omega arith)) h
 taking s x _ l e f h = absurd (cc)
 
 -- whoever takes a lock doesn't hold it, where the certificate covers the graph

@@ -7,6 +7,7 @@ use Rattle.flt_rules.specs.declared.call.Call.TheVariants as call
 use Rattle.flt_rules.specs.declared.call.LockNumber.{LockNumber}
 use Rattle.flt_rules.specs.declared.held.HeldLock.{HeldLock}
 use Rattle.flt_graph.specs.Graph.{instruction_at, line_at}
+use Rattle.flt_graph.specs.Instruction.{roles}
 use Rattle.flt_graph.specs.declared.graph.Graph.{Graph}
 use Rattle.flt_graph.specs.declared.instruction.Instruction.{Instruction}
 use Rattle.flt_graph.specs.declared.instruction.Instruction.TheVariants as instruction
@@ -23,7 +24,7 @@ taken_by_call _ l = None
 
 -- the lock that an instruction takes
 abbrev pub taken_by : Instruction → Option LockNumber
-taken_by (instruction.Call c granted refused) = taken_by_call c.call c.lock
+taken_by (instruction.Call c granted refused) = taken_by_call (roles c).call (roles c).lock
 taken_by _ = None
 
 -- the callback takes the lock at the point, which is reached, while it holds the other one, by the certificate; the point is on the line

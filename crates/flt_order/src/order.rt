@@ -25,11 +25,14 @@ fn taken_by(instruction: Instruction) -> Option<LockNumber>
     ensures { result ≡ spec.taken_by instruction }
 {
     match instruction {
-        Instruction::Call(invocation, _, _) => match invocation.call {
-            Call::AcquireLock(_) => invocation.lock,
-            Call::AcquirePushLockShared => invocation.lock,
-            _ => None,
-        },
+        Instruction::Call(call, _, _) => {
+            let roles = call.roles();
+            match roles.call {
+                Call::AcquireLock(_) => roles.lock,
+                Call::AcquirePushLockShared => roles.lock,
+                _ => None,
+            }
+        }
         _ => None,
     }
 }

@@ -5,6 +5,9 @@ use Rattle.std.proofs.lemmas.List.{length-append}
 use Rattle.std.specs.Prelude.{Bool, true, false, Option, Some, None}
 use Rattle.flt_rules.specs.declared.call.LockKind.{LockKind}
 use Rattle.flt_rules.specs.declared.call.LockNumber.{LockNumber}
+use Rattle.flt_syntax.specs.declared.shape.Operands.{Operands}
+use Rattle.flt_syntax.specs.declared.shape.Slot.{Slot}
+use Rattle.flt_syntax.specs.declared.shape.Tail.{Tail}
 use Rattle.flt_syntax.specs.declared.token.Kind.{Kind}
 use Rattle.flt_syntax.specs.declared.token.Kind.TheVariants as k
 use Rattle.flt_syntax.specs.declared.token.Token.{Token}
@@ -25,7 +28,7 @@ use Rattle.flt_tree.specs.declared.variable.Expression.{Expression}
 use Rattle.flt_syntax.specs.ActionGrammar as acting
 use Rattle.flt_syntax.specs.ActionGrammar.{AtomAt, ExpressionAt, ActionAt, TestAt, ConditionAt}
 use Rattle.flt_syntax.specs.CallGrammar as calling
-use Rattle.flt_syntax.specs.CallGrammar.{StatusAt, OptionalStatusAt, RoutineAt, LockAt, FallibleAt, PlainAt}
+use Rattle.flt_syntax.specs.CallGrammar.{StatusAt, OptionalStatusAt, RoutineAt, LockAt, SlotAt, SlotsAt, TailAt, FallibleAt, PlainAt}
 use Rattle.flt_syntax.specs.Grammar as grammar
 use Rattle.flt_syntax.specs.Grammar.{StatementAt, ElseAt, BlockAt, StatementsAt}
 use Rattle.flt_syntax.specs.Words as words
@@ -33,8 +36,8 @@ use Rattle.flt_syntax.specs.Words.{Next, Meant, NameAt, NumberAt, OptionalAt}
 use Rattle.flt_syntax.specs.Scope.{Scope}
 use Rattle.flt_syntax.specs.FirstWords.{begins_status}
 use Rattle.flt_syntax.specs.Cursor.{Input, front, kind, is_word, span_of, span}
-use Rattle.flt_syntax.specs.Over.{OptionalOver, StatusOver, OptionalStatusOver, FallibleOver, PlainOver}
-use Rattle.flt_syntax.specs.Over.{ExpressionOver, ActionOver, ConditionOver, ElseOver, StatementOver}
+use Rattle.flt_syntax.specs.Over.{OptionalOver, StatusOver, OptionalStatusOver, FallibleOver, PlainOver, ExpressionOver, ActionOver}
+use Rattle.flt_syntax.specs.Over.{ConditionOver, ElseOver, StatementOver, TailOver}
 
 -- the kinds of token that productions take: not the end, nor what is no token
 abbrev pub passable : Kind → Bool
@@ -180,56 +183,47 @@ optional_status_free (calling.no_status {i = i}) =
 optional_status_free (calling.some_status p) =
     made (status_free p) (λ j z y. (calling.some_status y.0, y.1))
 
+-- a slot
+pub slot_free : {scope : Scope} {s : Slot} {x y : Operands} {i o : Input} → SlotAt scope s x i y o →
+    Detached (λ j y z. SlotAt scope s x j y z) i y o
+slot_free (calling.data_word n) = made (next_free refl n) (λ j z q. calling.data_word q)
+slot_free (calling.as_word n) = made (next_free refl n) (λ j z q. calling.as_word q)
+slot_free (calling.context_word n) = made (next_free refl n) (λ j z q. calling.context_word q)
+slot_free (calling.operation p) = made (meant_free (refl, refl, refl) p) (λ j z q. calling.operation q)
+slot_free (calling.removed p) = made (meant_free (refl, refl, refl) p) (λ j z q. calling.removed q)
+slot_free (calling.existing p) = made (meant_free (refl, refl, refl) p) (λ j z q. calling.existing q)
+slot_free (calling.context p) = made (meant_free (refl, refl, refl) p) (λ j z q. calling.context q)
+slot_free (calling.other p h) = made (meant_free (refl, refl, refl) p) (λ j z q. calling.other q h)
+slot_free (calling.routine_name p) = made (routine_free p) (λ j z q. calling.routine_name q)
+slot_free (calling.lock_name p) = made (lock_free p) (λ j z q. calling.lock_name q)
+
+-- slots
+pub slots_free : {scope : Scope} {ss : List Slot} {x y : Operands} {i o : Input} → SlotsAt scope ss x i y o →
+    Detached (λ j y z. SlotsAt scope ss x j y z) i y o
+slots_free calling.no_slots = left_out (λ z. calling.no_slots)
+slots_free (calling.slot p q) = let dp = slot_free p in shift dp (made (slots_free q) (λ j z y. calling.slot (dp.again j) y))
+
+-- what ends a call, which stays over where the next token is the same
+tail_free : {t : Tail} {x y : Operands} {i o : Input} (p : TailAt t x i y o) →
+    Detached (λ j y z. (q : TailAt t x j y z) × (TailOver p → front z ≡ front o → TailOver q)) i y o
+tail_free calling.nothing = left_out (λ z. (calling.nothing, λ over same. tt))
+tail_free (calling.with_context p) = made (optional_free refl p) (λ j z y. (calling.with_context y.0, y.1))
+tail_free (calling.old p) = made (optional_free refl p) (λ j z y. (calling.old y.0, y.1))
+tail_free (calling.other_old p h) = made (optional_free refl p) (λ j z y. (calling.other_old y.0 h, y.1))
+tail_free (calling.status p) = made (status_free p) (λ j z y. (calling.status y.0, y.1))
+
 -- fallible, which stays over where the next token is the same
-pub fallible_free : {scope : Scope} {i o : Input} {c : FallibleCall} (p : FallibleAt scope i c o) →
+pub fallible_free : {scope : Scope} {i o : Input} {c : FallibleCall Routine} (p : FallibleAt scope i c o) →
     Detached (λ j c z. (q : FallibleAt scope j c z) × (FallibleOver p → front z ≡ front o → FallibleOver q)) i c o
-fallible_free (calling.obtain n p) =
-    let dn = meant_free (refl, refl, refl) n in shift dn (made (meant_free (refl, refl, refl) p)
-    (λ j z y. (calling.obtain (dn.again j) y, λ over same. tt)))
-fallible_free (calling.set_context n p q x h) =
-    let dn = meant_free (refl, refl, refl) n in let dp = meant_free (refl, refl, refl) p in let dq = meant_free (refl, refl, refl) q in
-    shift dn (shift dp (shift dq (made (optional_free refl x)
-    (λ j z y. (calling.set_context (dn.again (dp.taken ++ (dq.taken ++ j))) (dp.again (dq.taken ++ j)) (dq.again j) y.0 h, y.1)))))
-fallible_free (calling.delete_context_of n p) =
-    let dn = meant_free (refl, refl, refl) n in
-    shift dn (made (optional_free refl p) (λ j z y. (calling.delete_context_of (dn.again j) y.0, y.1)))
-fallible_free (calling.insert_io q n m p) =
-    let dn = meant_free (refl, refl, refl) n in let dm = next_free refl m in shift dn (shift dm (made (optional_free refl p)
-    (λ j z y. (calling.insert_io q (dn.again (dm.taken ++ j)) (dm.again j) y.0, y.1))))
-fallible_free (calling.remove_next_io q n p m x) =
-    let dn = meant_free (refl, refl, refl) n in let dp = meant_free (refl, refl, refl) p in let dm = next_free refl m in
-    shift dn (shift dp (shift dm (made (meant_free (refl, refl, refl) x)
-    (λ j z y. (
-      calling.remove_next_io q (dn.again (dp.taken ++ (dm.taken ++ j))) (dp.again (dm.taken ++ j))
-          (dm.again j) y,
-      λ over same. tt,
-    )))))
-fallible_free (calling.queue_deferred n m p q) =
-    let dn = meant_free (refl, refl, refl) n in let dm = next_free refl m in let dp = routine_free p in
-    shift dn (shift dm (shift dp (made (optional_free refl q)
-    (λ j z y. (calling.queue_deferred (dn.again (dm.taken ++ (dp.taken ++ j))) (dm.again (dp.taken ++ j)) (dp.again j) y.0, y.1)))))
-fallible_free (calling.queue_generic n p q) =
-    let dn = meant_free (refl, refl, refl) n in let dp = routine_free p in shift dn (shift dp (made (optional_free refl q)
-    (λ j z y. (calling.queue_generic (dn.again (dp.taken ++ j)) (dp.again j) y.0, y.1))))
+fallible_free (calling.fallible n q p t) =
+    let dn = meant_free (refl, refl, refl) n in let dp = slots_free p in
+    shift dn (shift dp (made (tail_free t) (λ j z y. (calling.fallible (dn.again (dp.taken ++ j)) q (dp.again j) y.0, y.1))))
 
 plain_free : {scope : Scope} {i o : Input} {c : PlainCall} (p : PlainAt scope i c o) →
     Detached (λ j c z. (q : PlainAt scope j c z) × (PlainOver p → front z ≡ front o → PlainOver q)) i c o
-plain_free (calling.end_context n p) =
-    let dn = meant_free (refl, refl, refl) n in shift dn (made (meant_free (refl, refl, refl) p)
-    (λ j z y. (calling.end_context (dn.again j) y, λ over same. tt)))
-plain_free (calling.reference n p m q h) =
-    let dn = meant_free (refl, refl, refl) n in let dp = meant_free (refl, refl, refl) p in let dm = next_free refl m in
-    shift dn (shift dp (shift dm (made (meant_free (refl, refl, refl) q)
-    (λ j z y. (calling.reference (dn.again (dp.taken ++ (dm.taken ++ j))) (dp.again (dm.taken ++ j)) (dm.again j) y h, λ over same. tt)))))
-plain_free (calling.lock_call n p) =
-    let dn = meant_free (refl, refl, refl) n in
-    shift dn (made (lock_free p) (λ j z y. (calling.lock_call (dn.again j) y, λ over same. tt)))
-plain_free (calling.complete_pre n p q) =
-    let dn = meant_free (refl, refl, refl) n in let dp = meant_free (refl, refl, refl) p in shift dn (shift dp (made (status_free q)
-    (λ j z y. (calling.complete_pre (dn.again (dp.taken ++ j)) (dp.again j) y.0, y.1))))
-plain_free (calling.complete_post n m) =
-    let dn = meant_free (refl, refl, refl) n in
-    shift dn (made (next_free refl m) (λ j z y. (calling.complete_post (dn.again j) y, λ over same. tt)))
+plain_free (calling.plain n p t) =
+    let dn = meant_free (refl, refl, refl) n in let dp = slots_free p in
+    shift dn (shift dp (made (tail_free t) (λ j z y. (calling.plain (dn.again (dp.taken ++ j)) (dp.again j) y.0, y.1))))
 
 -- atom
 pub atom_free : {i o : Input} {x : Atom} → AtomAt i x o → Detached AtomAt i x o
@@ -319,11 +313,7 @@ action_some (acting.clear_context p m n) h = meant_some p h
 action_some (acting.clear_operation p m n) h = meant_some p h
 
 plain_some : {scope : Scope} {i o : Input} {c : PlainCall} → PlainAt scope i c o → i ≡ [] → ⊥
-plain_some (calling.end_context n p) h = meant_some n h
-plain_some (calling.reference n p m q d) h = meant_some n h
-plain_some (calling.lock_call n p) h = meant_some n h
-plain_some (calling.complete_pre n p q) h = meant_some n h
-plain_some (calling.complete_post n m) h = meant_some n h
+plain_some (calling.plain n p t) h = meant_some n h
 
 -- what takes a token keeps its first one
 pub same_token : (taken z i o : Input) → i ≡ taken ++ o → (taken ≡ [] → ⊥) → front (taken ++ z) ≡ front i

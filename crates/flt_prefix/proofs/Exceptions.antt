@@ -7,6 +7,7 @@ use Rattle.flt_tree.specs.Declarations.{lock_number}
 use Rattle.flt_tree.specs.declared.filter.PlainCall.{PlainCall}
 use Rattle.flt_tree.specs.declared.filter.Statement.{Statement}
 use Rattle.flt_syntax.specs.declared.shape.PlainShape.{PlainShape}
+use Rattle.flt_syntax.specs.declared.shape.PlainShape.TheVariants as shapes
 use Rattle.flt_syntax.specs.declared.token.Kind.{Kind}
 use Rattle.flt_syntax.specs.declared.token.Kind.TheVariants as k
 use Rattle.flt_syntax.specs.CallGrammar as calling
@@ -43,11 +44,11 @@ other_word : {x : PlainShape} {i o : Input} → Meant plain_shape_of i x o → n
 other_word (words.meant m) e h = differ (sym (ap names_lock m ∙ e) ∙ h)
 
 no_lock : {scope : Scope} {i o : Input} {c : PlainCall} → scope.locks ≡ [] → is_lock_word (kind i) ≡ true → PlainAt scope i c o → ⊥
-no_lock e h (calling.end_context n p) = other_word n refl h
-no_lock e h (calling.reference n p m q d) = other_word n refl h
-no_lock e h (calling.lock_call n p) = no_lock_at e p
-no_lock e h (calling.complete_pre n p q) = other_word n refl h
-no_lock e h (calling.complete_post n m) = other_word n refl h
+no_lock e h (calling.plain {s = shapes.End how} n p t) = other_word n refl h
+no_lock e h (calling.plain {s = shapes.Reference} n p t) = other_word n refl h
+no_lock e h (calling.plain {s = shapes.Lock call} n (calling.slot (calling.lock_name p) q) t) = no_lock_at e p
+no_lock e h (calling.plain {s = shapes.CompletePre} n p t) = other_word n refl h
+no_lock e h (calling.plain {s = shapes.CompletePost} n p t) = other_word n refl h
 
 -- the first exception
 pub no_lock_call : NoLockCall
@@ -78,11 +79,7 @@ no_action h (acting.clear_context p m n) = other_meaning p refl refl h
 no_action h (acting.clear_operation p m n) = other_meaning p refl refl h
 
 no_plain : {scope : Scope} {i o : Input} {c : PlainCall} → has_blocks (kind i) ≡ true → PlainAt scope i c o → ⊥
-no_plain h (calling.end_context n p) = other_meaning n refl refl h
-no_plain h (calling.reference n p m q d) = other_meaning n refl refl h
-no_plain h (calling.lock_call n p) = other_meaning n refl refl h
-no_plain h (calling.complete_pre n p q) = other_meaning n refl refl h
-no_plain h (calling.complete_post n m) = other_meaning n refl refl h
+no_plain h (calling.plain n p t) = other_meaning n refl refl h
 
 no_block : {scope : Scope} {r : ℕ} {i o : Input} {ss : List Statement} (d : ℕ) → d ≡ 0 → BlockAt scope d r i ss o → ⊥
 no_block _ e (grammar.block {d = d} n p m) = absurd (omega (arith, e))

@@ -1,6 +1,7 @@
 -- The tokens before an E03 begin what spells, unless a lock's name must stand there, and the depth of blocks aside.
 use Rattle.std.proofs.Common.{◌≡◌, ◌≢◌, true, ℕ, zero, suc, ◌+◌, ◌≤◌, List, [], ◌∷◌, ◌++◌, refl, sym, ap, subst, ◌∙◌, append_assoc, arith}
-use Rattle.std.specs.Prelude.{Option, Some, None}
+use Rattle.std.proofs.lemmas.Bool.{and_parts}
+use Rattle.std.specs.Prelude.{Bool, false, ◌&&◌, Option, Some, None}
 use Rattle.flt_rules.specs.declared.call.Existing.TheVariants as kept
 use Rattle.flt_rules.specs.declared.call.LockKind.{LockKind}
 use Rattle.flt_rules.specs.declared.status.FinalStatus.TheVariants as finals
@@ -8,14 +9,22 @@ use Rattle.flt_syntax.specs.declared.fault.FaultKind.TheVariants.{E01, E02, E03,
 use Rattle.flt_syntax.specs.declared.fault.SyntaxFault.{SyntaxFault}
 use Rattle.flt_syntax.specs.declared.shape.ContextEnd.TheVariants as ends
 use Rattle.flt_syntax.specs.declared.shape.ContextSource.TheVariants as sources
+use Rattle.flt_syntax.specs.declared.shape.FallibleShape.{FallibleShape}
+use Rattle.flt_syntax.specs.declared.shape.FallibleShape.TheVariants as shapes
+use Rattle.flt_syntax.specs.declared.shape.Operands.{Operands}
+use Rattle.flt_syntax.specs.declared.shape.PlainShape.{PlainShape}
+use Rattle.flt_syntax.specs.declared.shape.PlainShape.TheVariants as plain_shapes
+use Rattle.flt_syntax.specs.declared.shape.QueueCall.TheVariants as queued
+use Rattle.flt_syntax.specs.declared.shape.Slot.{Slot}
+use Rattle.flt_syntax.specs.declared.shape.Slot.TheVariants as part
+use Rattle.flt_syntax.specs.declared.shape.Tail.{Tail}
+use Rattle.flt_syntax.specs.declared.shape.Tail.TheVariants as last
 use Rattle.flt_syntax.specs.declared.token.Kind.{Kind}
 use Rattle.flt_syntax.specs.declared.token.Kind.TheVariants as k
 use Rattle.flt_syntax.specs.declared.token.Token.{Token}
 use Rattle.flt_rules.specs.Limits.{max_turns}
 use Rattle.flt_tree.specs.declared.filter.Action.TheVariants as actions
 use Rattle.flt_tree.specs.declared.filter.Condition.TheVariants as conditions
-use Rattle.flt_tree.specs.declared.filter.FallibleCall.TheVariants as fallible
-use Rattle.flt_tree.specs.declared.filter.PlainCall.TheVariants as plain
 use Rattle.flt_tree.specs.declared.filter.Statement.{Statement}
 use Rattle.flt_tree.specs.declared.filter.Statement.TheVariants as statements
 use Rattle.flt_tree.specs.declared.filter.Status.TheVariants as statuses
@@ -29,22 +38,23 @@ use Rattle.flt_tree.specs.Names.{Text}
 use Rattle.flt_syntax.specs.ActionGrammar as acting
 use Rattle.flt_syntax.specs.ActionGrammar.{AtomAt, ExpressionAt, ActionAt, ConditionAt}
 use Rattle.flt_syntax.specs.CallGrammar as calling
-use Rattle.flt_syntax.specs.CallGrammar.{StatusAt, OptionalStatusAt, RoutineAt, FallibleAt, PlainAt}
+use Rattle.flt_syntax.specs.CallGrammar.{StatusAt, OptionalStatusAt, SlotAt, SlotsAt, TailAt, FallibleAt, PlainAt}
 use Rattle.flt_syntax.specs.Grammar as grammar
 use Rattle.flt_syntax.specs.Grammar.{StatementAt, ElseAt, BlockAt, StatementsAt}
 use Rattle.flt_syntax.specs.Words as words
 use Rattle.flt_syntax.specs.Words.{Next, Meant, NameAt, NumberAt, ContextAt, OptionalAt}
 use Rattle.flt_syntax.specs.Scope.{Scope}
-use Rattle.flt_syntax.specs.Shape.{obtaining, ending}
+use Rattle.flt_syntax.specs.Shape.{unfilled, fallible_slots, fallible_tail, fallible_of, plain_shape_of, plain_slots, plain_tail, plain_of}
 use Rattle.flt_syntax.specs.Cursor.{span, Input, bytes_of, fault_at}
-use Rattle.flt_prefix.proofs.Detached.{passable, AllPassed, passed_both, Detached, next_free, meant_free, number_free}
-use Rattle.flt_prefix.proofs.Detached.{routine_free, atom_free, condition_free, statement_free, block_free}
+use Rattle.flt_prefix.proofs.Detached.{passable, AllPassed, passed_both, Detached, next_free, meant_free, number_free, atom_free}
+use Rattle.flt_prefix.proofs.Detached.{condition_free, statement_free, block_free, slot_free, slots_free}
 use Rattle.flt_prefix.proofs.DetachedFiles.{head_free, callback_free}
 use Rattle.flt_syntax.specs.WordFails as word_fails
 use Rattle.flt_syntax.specs.WordFails.{Refused, Unknown, NextFails, MeantFails, KnownFails, NameFails, NumberFails}
 use Rattle.flt_syntax.specs.WordFails.{ContextFails, OtherFails, OptionalFails, OtherOldFails}
 use Rattle.flt_syntax.specs.CallFails as call_fails
-use Rattle.flt_syntax.specs.CallFails.{StatusFails, OptionalStatusFails, LockFails, FallibleFails, PlainFails}
+use Rattle.flt_syntax.specs.CallFails.{StatusFails, OptionalStatusFails, LockFails, SlotFails}
+use Rattle.flt_syntax.specs.CallFails.{SlotsFail, TailFails, FallibleFails, PlainFails}
 use Rattle.flt_syntax.specs.ActionFails as bad
 use Rattle.flt_syntax.specs.ActionFails.{AtomFails, LeadingFails, ExpressionFails, ActionFails, ConditionFails}
 use Rattle.flt_syntax.specs.StatementFails as statement_fails
@@ -176,9 +186,6 @@ pub name_fin : {text : Text} {i : Input} {f : SyntaxFault} → NameFails i f →
 name_fin {text = text} (word_fails.no_name {i = i} n r) e =
     fin_at i (a_token k.Name ∷ []) (refused_at r e) (λ o. (bytes_of text (a_token k.Name), words.name refl))
 
-routine_fin : {text : Text} {i : Input} {f : SyntaxFault} → NameFails i f → f.kind ≡ E03 → Finishes (RoutineAt text) i f
-routine_fin {text = text} h e = fin_by (name_fin {text = text} h e) (λ j o u y. (_, calling.routine y))
-
 number_fin : {low high : ℕ} {i : Input} {f : SyntaxFault} → NumberFails low high i f → f.kind ≡ E03 →
     Finishes (λ j n o. NumberAt j n o × (n ≡ 0)) i f
 number_fin (word_fails.no_number {i = i} n r) e = fin_at i (a_token k.Number ∷ []) (refused_at r e) (λ o. (0, (words.number refl, refl)))
@@ -232,96 +239,163 @@ status_fin (call_fails.complete n h) e =
     let dn = next_free refl n in fin_shift dn (fin_by (meant_fin k.StatusSuccess finals.Success refl h e)
     (λ j o u y. (statuses.Complete u, calling.complete (dn.again j) y)))
 
+-- where a lock's name must stand
+lock_asked : {scope : Scope} {lk : LockKind} {i : Input} {f : SyntaxFault} → LockFails scope lk i f → f.kind ≡ E03 → f ≡ fault_at E03 i
+lock_asked (call_fails.no_name (word_fails.no_name n r)) e = refused_at r e
+lock_asked (call_fails.unknown_lock p n) e = elim (not_four e) [ ]
+
+-- ---- slots, which any of some tokens fills, but for a lock's name
+
+abbrev is_free : Slot → Bool
+is_free (part.Lock kind) = false
+is_free _ = true
+
+abbrev are_free : List Slot → Bool
+are_free [] = true
+are_free (s ∷ ss) = is_free s && are_free ss
+
+-- a token that fills a slot
+record Filled (scope : Scope) (s : Slot) (x : Operands) : Type 0 where
+  kind : Kind
+  now : Operands
+  spells : (o : Input) → SlotAt scope s x (a_token kind ∷ o) now o
+
+no_lock : false ≡ true → ⊥
+no_lock e = cc
+
+fill : (scope : Scope) (s : Slot) (x : Operands) → is_free s ≡ true → Filled scope s x
+fill scope part.Data x e = record { kind = k.Data; now = x; spells = λ o. calling.data_word (words.next refl) }
+fill scope part.As x e = record { kind = k.As; now = x; spells = λ o. calling.as_word (words.next refl) }
+fill scope part.With x e = record { kind = k.Context; now = x; spells = λ o. calling.context_word (words.next refl) }
+fill scope part.Operation x e =
+    record { kind = k.Data; now = record x { operation = operations.Data }; spells = λ o. calling.operation (words.meant refl) }
+fill scope part.Removed x e =
+    record { kind = k.O0; now = record x { removed = removed.O0 }; spells = λ o. calling.removed (words.meant refl) }
+fill scope part.Existing x e =
+    record { kind = k.KeepIfExists; now = record x { existing = kept.Keep }; spells = λ o. calling.existing (words.meant refl) }
+fill scope part.Context x e =
+    record { kind = k.C0; now = record x { context = contexts.C0 }; spells = λ o. calling.context (words.meant refl) }
+fill scope part.Other x e =
+    let a = another x.context in record { kind = a.1; now = record x { other = a.0 }; spells = λ o. calling.other (a.2 o) a.3 }
+fill scope part.Routine x e =
+    let t = a_token k.Name in record {
+      kind = k.Name;
+      now = record x { routine = record { name = bytes_of scope.text t; position = t.position } };
+      spells = λ o. calling.routine_name (calling.routine (words.name refl));
+    }
+fill scope (part.Lock kind) x e = elim (no_lock e) [ ]
+
+-- tokens that fill slots
+record AllFilled (scope : Scope) (ss : List Slot) (x : Operands) : Type 0 where
+  tokens : Input
+  now : Operands
+  spells : (o : Input) → SlotsAt scope ss x (tokens ++ o) now o
+
+fill_all : (scope : Scope) (ss : List Slot) (x : Operands) → are_free ss ≡ true → AllFilled scope ss x
+fill_all scope [] x e = record { tokens = []; now = x; spells = λ o. calling.no_slots }
+fill_all scope (s ∷ ss) x e =
+    let h = and_parts (is_free s) (are_free ss) e in
+    let one = fill scope s x h.0 in
+    let more = fill_all scope ss one.now h.1 in record {
+      tokens = a_token one.kind ∷ more.tokens;
+      now = more.now;
+      spells = λ o. calling.slot (one.spells (more.tokens ++ o)) (more.spells o);
+    }
+
+-- tokens that end a call
+record Ended (t : Tail) (x : Operands) : Type 0 where
+  tokens : Input
+  now : Operands
+  spells : (o : Input) → TailAt t x (tokens ++ o) now o
+
+end_by : (t : Tail) (x : Operands) → Ended t x
+end_by last.Nothing x = record { tokens = []; now = x; spells = λ o. calling.nothing }
+end_by last.With x = record { tokens = []; now = record x { optional = None }; spells = λ o. calling.with_context words.without }
+end_by last.Old x = record { tokens = []; now = record x { optional = None }; spells = λ o. calling.old words.without }
+end_by last.OtherOld x = record {
+  tokens = [];
+  now = record x { optional = None };
+  spells = λ o. calling.other_old words.without (λ e. none_some x.context e);
+}
+end_by last.Status x = record {
+  tokens = a_token k.Pending ∷ [];
+  now = record x { status = statuses.Pending };
+  spells = λ o. calling.status (calling.bare (words.meant refl));
+}
+
+-- a slot fails at its own token
+slot_place : {scope : Scope} {s : Slot} {x : Operands} {i : Input} {f : SyntaxFault} → SlotFails scope s x i f → f.kind ≡ E03 →
+    f ≡ fault_at E03 i
+slot_place (call_fails.data_word (word_fails.missing n r)) e = refused_at r e
+slot_place (call_fails.as_word (word_fails.missing n r)) e = refused_at r e
+slot_place (call_fails.context_word (word_fails.missing n r)) e = refused_at r e
+slot_place (call_fails.operation (word_fails.unnamed n r)) e = unknown_at r e
+slot_place (call_fails.removed (word_fails.unnamed n r)) e = unknown_at r e
+slot_place (call_fails.existing (word_fails.unmeant n r)) e = refused_at r e
+slot_place (call_fails.context (word_fails.unnamed n r)) e = unknown_at r e
+slot_place (call_fails.other (word_fails.no_context (word_fails.unnamed n r))) e = unknown_at r e
+slot_place (call_fails.other (word_fails.twice p)) e = elim (not_eight e) [ ]
+slot_place (call_fails.routine_name (word_fails.no_name n r)) e = refused_at r e
+slot_place (call_fails.lock_name h) e = lock_asked h e
+
+-- what finishes slots, and the operands that it leaves
+record SlotsFinish (scope : Scope) (ss : List Slot) (x : Operands) (i : Input) (f : SyntaxFault) : Type 0 where
+  now : Operands
+  finishes : Finishes (λ j (u : Unit {0}) o. SlotsAt scope ss x j now o) i f
+
+slots_fin : {scope : Scope} {ss : List Slot} {x : Operands} {i : Input} {f : SyntaxFault} → SlotsFail scope ss x i f → f.kind ≡ E03 →
+    are_free ss ≡ true → SlotsFinish scope ss x i f
+slots_fin {scope = scope} (call_fails.here {x = x} {i = i} {s = s} {ss = ss} h) e free =
+    let b = and_parts (is_free s) (are_free ss) free in
+    let one = fill scope s x b.0 in
+    let more = fill_all scope ss one.now b.1 in record {
+      now = more.now;
+      finishes = fin_at i (a_token one.kind ∷ more.tokens) (slot_place h e)
+          (λ o. (tt, calling.slot (one.spells (more.tokens ++ o)) (more.spells o)));
+    }
+slots_fin (call_fails.later {s = s} {ss = ss} p h) e free =
+    let d = slot_free p in
+    let v = slots_fin h e (and_parts (is_free s) (are_free ss) free).1 in
+    record { now = v.now; finishes = fin_shift d (fin_by v.finishes (λ j o u y. (tt, calling.slot (d.again j) y))) }
+
+tail_fin : {t : Tail} {x : Operands} {i : Input} {f : SyntaxFault} → TailFails t x i f → f.kind ≡ E03 → Finishes (TailAt t x) i f
+tail_fin {x = x} (call_fails.with_context h) e =
+    fin_by (optional_fin refl h e) (λ j o u y. (record x { optional = u }, calling.with_context y))
+tail_fin {x = x} (call_fails.old h) e = fin_by (optional_fin refl h e) (λ j o u y. (record x { optional = u }, calling.old y))
+tail_fin {x = x} (call_fails.other_old h) e =
+    fin_by (other_old_fin h e) (λ j o u y. (record x { optional = u }, calling.other_old y.0 y.1))
+tail_fin {x = x} (call_fails.status h) e = fin_by (status_fin h e) (λ j o u y. (record x { status = u }, calling.status y))
+
+-- ---- calls that can fail
+
+free_slots : (s : FallibleShape) → are_free (fallible_slots s) ≡ true
+free_slots (shapes.Obtain source) = refl
+free_slots (shapes.Set anchor) = refl
+free_slots (shapes.Delete anchor) = refl
+free_slots (shapes.Queue queued.Insert) = refl
+free_slots (shapes.Queue queued.RemoveNext) = refl
+free_slots shapes.QueueDeferred = refl
+free_slots shapes.QueueGeneric = refl
+
 fallible_fin : {scope : Scope} {i : Input} {f : SyntaxFault} → FallibleFails scope i f → f.kind ≡ E03 → Finishes (FallibleAt scope) i f
 fallible_fin (call_fails.no_fallible {i = i} b r) e =
     fin_at i (a_token k.AllocateContext ∷ (a_token k.C0 ∷ [])) (refused_at r e)
-    (λ o. (_, calling.obtain {s = sources.Allocate} {c = contexts.C0} (words.meant refl) (words.meant refl)))
-fallible_fin (call_fails.queue_unknown n q) e = elim (not_four e) [ ]
-fallible_fin (call_fails.obtain {s = s} n h) e =
+    (λ o. (
+      _,
+      calling.fallible {s = shapes.Obtain sources.Allocate} (words.meant refl) refl
+          (calling.slot (calling.context {c = contexts.C0} (words.meant refl)) calling.no_slots) calling.nothing,
+    ))
+fallible_fin (call_fails.unknown_call n q) e = elim (not_four e) [ ]
+fallible_fin (call_fails.fallible_slot {s = s} n q h) e =
     let dn = meant_free (refl, refl, refl) n in
-    fin_shift dn (fin_by (context_fin h e) (λ j o u y. (obtaining s u, calling.obtain (dn.again j) y)))
-fallible_fin (call_fails.set_existing {x = x} n h) e =
-    let dn = meant_free (refl, refl, refl) n in fin_shift dn (fin_more (a_token k.C0 ∷ []) (meant_fin k.KeepIfExists kept.Keep refl h e)
-    (λ j o u y. (
-      fallible.SetContext x u contexts.C0 None,
-      calling.set_context (dn.again j) y (words.meant refl) words.without
-          (λ x. none_some contexts.C0 x),
-    )))
-fallible_fin (call_fails.set_context {x = x} {e = k} n p h) e =
-    let dn = meant_free (refl, refl, refl) n in let dp = meant_free (refl, refl, refl) p in
-    fin_shift dn (fin_shift dp (fin_by (context_fin h e)
-    (λ j o u y. (
-      fallible.SetContext x k u None,
-      calling.set_context (dn.again (dp.taken ++ j)) (dp.again j) y words.without
-          (λ x. none_some u x),
-    ))))
-fallible_fin (call_fails.set_old {x = x} {e = k} {c = c} n p q h) e =
-    let dn = meant_free (refl, refl, refl) n in let dp = meant_free (refl, refl, refl) p in let dq = meant_free (refl, refl, refl) q in
-    fin_shift dn (fin_shift dp (fin_shift dq (fin_by (other_old_fin h e)
-    (λ j o u y. (
-      fallible.SetContext x k c u,
-      calling.set_context (dn.again (dp.taken ++ (dq.taken ++ j))) (dp.again (dq.taken ++ j))
-          (dq.again j) y.0 y.1,
-    )))))
-fallible_fin (call_fails.delete_context_of {x = x} n h) e =
-    let dn = meant_free (refl, refl, refl) n in fin_shift dn (fin_by (optional_fin refl h e)
-    (λ j o u y. (fallible.DeleteContextOf x u, calling.delete_context_of (dn.again j) y)))
-fallible_fin (call_fails.insert_data q n h) e =
-    let dn = meant_free (refl, refl, refl) n in fin_shift dn (fin_by (next_fin h e)
-    (λ j o u y. (fallible.InsertIo None, calling.insert_io q (dn.again j) y words.without)))
-fallible_fin (call_fails.insert_context q n m h) e =
-    let dn = meant_free (refl, refl, refl) n in let dm = next_free refl m in fin_shift dn (fin_shift dm (fin_by (optional_fin refl h e)
-    (λ j o u y. (fallible.InsertIo u, calling.insert_io q (dn.again (dm.taken ++ j)) (dm.again j) y))))
-fallible_fin (call_fails.remove_operation q n h) e =
-    let dn = meant_free (refl, refl, refl) n in fin_shift dn (fin_more (a_token k.Context ∷ (a_token k.C0 ∷ []))
-    (known_fin k.O0 removed.O0 refl h e) (λ j o u y. (
-      fallible.RemoveNextIo u contexts.C0,
-      calling.remove_next_io q (dn.again j) y
-          (words.next refl) (words.meant refl),
-    )))
-fallible_fin (call_fails.remove_word {x = v} q n p h) e =
-    let dn = meant_free (refl, refl, refl) n in let dp = meant_free (refl, refl, refl) p in
-    fin_shift dn (fin_shift dp (fin_more (a_token k.C0 ∷ [])
-    (next_fin h e) (λ j o u y. (
-      fallible.RemoveNextIo v contexts.C0,
-      calling.remove_next_io q (dn.again (dp.taken ++ j)) (dp.again j) y
-          (words.meant refl),
-    ))))
-fallible_fin (call_fails.remove_context {x = v} q n p m h) e =
-    let dn = meant_free (refl, refl, refl) n in let dp = meant_free (refl, refl, refl) p in let dm = next_free refl m in
-    fin_shift dn (fin_shift dp (fin_shift dm (fin_by (context_fin h e)
-    (λ j o u y. (
-      fallible.RemoveNextIo v u,
-      calling.remove_next_io q (dn.again (dp.taken ++ (dm.taken ++ j))) (dp.again (dm.taken ++ j))
-          (dm.again j) y,
-    )))))
-fallible_fin (call_fails.deferred_data n h) e =
-    let dn = meant_free (refl, refl, refl) n in fin_shift dn (fin_more (a_token k.Name ∷ []) (next_fin h e)
-    (λ j o u y. (_, calling.queue_deferred (dn.again j) y (calling.routine (words.name refl)) words.without)))
-fallible_fin (call_fails.deferred_name n m h) e =
-    let dn = meant_free (refl, refl, refl) n in let dm = next_free refl m in fin_shift dn (fin_shift dm (fin_by (routine_fin h e)
-    (λ j o u y. (fallible.QueueDeferredIoWorkItem u None, calling.queue_deferred (dn.again (dm.taken ++ j)) (dm.again j) y words.without))))
-fallible_fin (call_fails.deferred_context {r = r} n m p h) e =
-    let dn = meant_free (refl, refl, refl) n in let dm = next_free refl m in let dp = routine_free p in
-    fin_shift dn (fin_shift dm (fin_shift dp (fin_by (optional_fin refl h e)
-    (λ j o u y. (
-      fallible.QueueDeferredIoWorkItem r u,
-      calling.queue_deferred (dn.again (dm.taken ++ (dp.taken ++ j))) (dm.again
-          (dp.taken ++ j)) (dp.again j) y,
-    )))))
-fallible_fin (call_fails.generic_name n h) e =
-    let dn = meant_free (refl, refl, refl) n in fin_shift dn (fin_by (routine_fin h e)
-    (λ j o u y. (fallible.QueueGenericWorkItem u None, calling.queue_generic (dn.again j) y words.without)))
-fallible_fin (call_fails.generic_context {r = r} n p h) e =
-    let dn = meant_free (refl, refl, refl) n in let dp = routine_free p in fin_shift dn (fin_shift dp (fin_by (optional_fin refl h e)
-    (λ j o u y. (fallible.QueueGenericWorkItem r u, calling.queue_generic (dn.again (dp.taken ++ j)) (dp.again j) y))))
-
-one_zero : contexts.C1 ≡ contexts.C0 → ⊥
-one_zero e = cc
-
-fixed_fin : {i : Input} {f : SyntaxFault} → ContextFails i f → f.kind ≡ E03 →
-    Finishes (λ j (u : Unit {0}) o. ContextAt j contexts.C0 o) i f
-fixed_fin (word_fails.unnamed {i = i} n r) e = fin_at i (a_token k.C0 ∷ []) (unknown_at r e) (λ o. (tt, words.meant refl))
+    let v = slots_fin h e (free_slots s) in
+    let ended = end_by (fallible_tail s) v.now in
+    fin_shift dn (fin_more ended.tokens v.finishes
+    (λ j o u y. (fallible_of s ended.now, calling.fallible (dn.again j) q y (ended.spells o))))
+fallible_fin (call_fails.fallible_end {s = s} n q p h) e =
+    let dn = meant_free (refl, refl, refl) n in let dp = slots_free p in
+    fin_shift dn (fin_shift dp (fin_by (tail_fin h e)
+    (λ j o u y. (fallible_of s u, calling.fallible (dn.again (dp.taken ++ j)) q (dp.again j) y))))
 
 few_turns : (n : ℕ) → n ≡ 0 → n ≤ max_turns
 few_turns n e = omega (arith, e)
@@ -331,11 +405,6 @@ new_name_fin : {text : Text} {found : List Callback} {i : Input} {f : SyntaxFaul
 new_name_fin (file.no_name h) e = name_fin h e
 new_name_fin (file.name_twice p t) e = elim (not_five e) [ ]
 
--- where a lock's name must stand
-lock_asked : {scope : Scope} {lk : LockKind} {i : Input} {f : SyntaxFault} → LockFails scope lk i f → f.kind ≡ E03 → f ≡ fault_at E03 i
-lock_asked (call_fails.no_name (word_fails.no_name n r)) e = refused_at r e
-lock_asked (call_fails.unknown_lock p n) e = elim (not_four e) [ ]
-
 -- what is left to read has no lock's name at its fault either
 pub below : {i a : Input} {f : SyntaxFault} (taken : Input) → i ≡ taken ++ a → AsksNoLock i f → AsksNoLock a f
 below taken e g b t rest p l q = g (taken ++ b) t rest (e ∙ (ap (λ z. taken ++ z) p ∙ sym (append_assoc taken b (t ∷ rest)))) l q
@@ -343,48 +412,43 @@ below taken e g b t rest p l q = g (taken ++ b) t rest (e ∙ (ap (λ z. taken +
 -- ---- where no lock's name must stand
 
 module _ (scope : Scope) where
+  -- a lock's name is missing where it must stand
+  lock_place : {kind : LockKind} {x : Operands} {i : Input} {f : SyntaxFault} → SlotsFail scope (part.Lock kind ∷ []) x i f →
+      f.kind ≡ E03 → f ≡ fault_at E03 i
+  lock_place (call_fails.here h) e = slot_place h e
+  lock_place (call_fails.later p h) e = elim h [ ]
+
+  free_fin : (s : PlainShape) → are_free (plain_slots s) ≡ true → {i a : Input} {f : SyntaxFault} → Meant plain_shape_of i s a →
+      SlotsFail scope (plain_slots s) unfilled a f → f.kind ≡ E03 → Finishes (PlainAt scope) i f
+  free_fin s free n h e =
+      let dn = meant_free (refl, refl, refl) n in
+      let v = slots_fin h e free in
+      let ended = end_by (plain_tail s) v.now in
+      fin_shift dn (fin_more ended.tokens v.finishes
+      (λ j o u y. (plain_of s ended.now, calling.plain (dn.again j) y (ended.spells o))))
+
+  slot_fin : (s : PlainShape) {i a : Input} {f : SyntaxFault} → AsksNoLock i f → Meant plain_shape_of i s a →
+      SlotsFail scope (plain_slots s) unfilled a f → f.kind ≡ E03 → Finishes (PlainAt scope) i f
+  slot_fin (plain_shapes.End how) g n h e = free_fin (plain_shapes.End how) refl n h e
+  slot_fin plain_shapes.Reference g n h e = free_fin plain_shapes.Reference refl n h e
+  slot_fin (plain_shapes.Lock call) g (words.meant {t = t} {o = o} q) h e =
+      elim (g [] t o refl (ap names_lock q) (lock_place h e)) [ ]
+  slot_fin plain_shapes.CompletePre g n h e = free_fin plain_shapes.CompletePre refl n h e
+  slot_fin plain_shapes.CompletePost g n h e = free_fin plain_shapes.CompletePost refl n h e
+
   plain_fin : {i : Input} {f : SyntaxFault} → AsksNoLock i f → PlainFails scope i f → f.kind ≡ E03 → Finishes (PlainAt scope) i f
   plain_fin g (call_fails.no_plain {i = i} b r) e =
       fin_at i (a_token k.DeleteContext ∷ (a_token k.C0 ∷ [])) (refused_at r e)
-      (λ o. (_, calling.end_context {e = ends.Delete} {c = contexts.C0} (words.meant refl) (words.meant refl)))
-  plain_fin g (call_fails.end_context {e = how} n h) e =
-      let dn = meant_free (refl, refl, refl) n in
-      fin_shift dn (fin_by (context_fin h e) (λ j o u y. (ending how u, calling.end_context (dn.again j) y)))
-  plain_fin g (call_fails.reference_context n h) e =
-      let dn = meant_free (refl, refl, refl) n in
-      fin_shift dn (fin_more (a_token k.As ∷ (a_token k.C1 ∷ [])) (fixed_fin h e) (λ j o u y. (
-        plain.ReferenceContext contexts.C0 contexts.C1,
-        calling.reference (dn.again j) y (words.next refl) (words.meant refl)
-            (λ x. one_zero x),
-      )))
-  plain_fin g (call_fails.reference_word {c = c} n p h) e =
-      let a = another c in let dn = meant_free (refl, refl, refl) n in let dp = meant_free (refl, refl, refl) p in
-      fin_shift dn (fin_shift dp (fin_more (a_token a.1 ∷ []) (next_fin h e) (λ j o u y.
-      (plain.ReferenceContext c a.0, calling.reference (dn.again (dp.taken ++ j)) (dp.again j) y (a.2 o) a.3))))
-  plain_fin g (call_fails.reference_copy {c = c} n p m h) e =
-      let dn = meant_free (refl, refl, refl) n in let dp = meant_free (refl, refl, refl) p in let dm = next_free refl m in
-      fin_shift dn (fin_shift dp (fin_shift dm (fin_by (other_fin h e)
-      (λ j o u y. (
-        plain.ReferenceContext c u,
-        calling.reference (dn.again (dp.taken ++ (dm.taken ++ j))) (dp.again (dm.taken ++ j))
-            (dm.again j) y.0 y.1,
-      )))))
-  plain_fin g (call_fails.lock_call (words.meant {t = t} {o = o} q) h) e = elim (g [] t o refl (ap names_lock q) (lock_asked h e)) [ ]
-  plain_fin g (call_fails.complete_pre_operation n h) e =
-      let dn = meant_free (refl, refl, refl) n in
-      fin_shift dn (fin_more (a_token k.Pending ∷ []) (known_fin k.Data operations.Data refl h e)
-      (λ j o u y. (
-        plain.CompletePendedPreOperation u statuses.Pending,
-        calling.complete_pre (dn.again j) y (calling.bare
-            (words.meant refl)),
-      )))
-  plain_fin g (call_fails.complete_pre_status {d = d} n p h) e =
-      let dn = meant_free (refl, refl, refl) n in let dp = meant_free (refl, refl, refl) p in
-      fin_shift dn (fin_shift dp (fin_by (status_fin h e)
-      (λ j o u y. (plain.CompletePendedPreOperation d u, calling.complete_pre (dn.again (dp.taken ++ j)) (dp.again j) y))))
-  plain_fin g (call_fails.complete_post n h) e =
-      let dn = meant_free (refl, refl, refl) n in fin_shift dn (fin_by (next_fin h e)
-      (λ j o u y. (plain.CompletePendedPostOperation, calling.complete_post (dn.again j) y)))
+      (λ o. (
+        _,
+        calling.plain {s = plain_shapes.End ends.Delete} (words.meant refl)
+            (calling.slot (calling.context {c = contexts.C0} (words.meant refl)) calling.no_slots) calling.nothing,
+      ))
+  plain_fin g (call_fails.plain_slot {s = s} n h) e = slot_fin s g n h e
+  plain_fin g (call_fails.plain_end {s = s} n p h) e =
+      let dn = meant_free (refl, refl, refl) n in let dp = slots_free p in
+      fin_shift dn (fin_shift dp (fin_by (tail_fin h e)
+      (λ j o u y. (plain_of s u, calling.plain (dn.again (dp.taken ++ j)) (dp.again j) y))))
 
 optional_status_fin : {i : Input} {f : SyntaxFault} → OptionalStatusFails i f → f.kind ≡ E03 → Finishes OptionalStatusAt i f
 optional_status_fin (call_fails.some b h) e = fin_by (status_fin h e) (λ j o u y. (Some u, calling.some_status y))

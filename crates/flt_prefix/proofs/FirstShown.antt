@@ -20,6 +20,7 @@ use Rattle.flt_tree.specs.declared.filter.FallibleCall.TheVariants.{QueueDeferre
 use Rattle.flt_tree.specs.declared.filter.Filter.{Filter}
 use Rattle.flt_tree.specs.declared.filter.Head.{Head}
 use Rattle.flt_tree.specs.declared.filter.Position.{Position}
+use Rattle.flt_tree.specs.declared.filter.Routine.{Routine}
 use Rattle.flt_tree.specs.declared.filter.Statement.{Statement, roll-Statement}
 use Rattle.flt_tree.specs.declared.filter.Statement.TheVariants.{If, Repeat, rolls-If, rolls-Repeat}
 use Rattle.flt_tree.specs.declared.filter.Statement.TheOpen.{Statement-F}
@@ -56,7 +57,7 @@ unrolled X step s y e = ap (fold-Statement X step) (sym e) ∙ fold-roll-Stateme
 module _ (cs : List Callback) (from : Head) where
   -- ---- nothing is missing where each call finds its routine
 
-  call_same : (c : FallibleCall) → is_empty (lacking_in cs from c) ≡ finds_routine cs from c
+  call_same : (c : FallibleCall Routine) → is_empty (lacking_in cs from c) ≡ finds_routine cs from c
   call_same (QueueDeferredIoWorkItem r context) = unless_empty (has_deferred from r.name cs) r.position
   call_same (QueueGenericWorkItem r context) = unless_empty (has_generic r.name cs) r.position
   call_same _ = refl

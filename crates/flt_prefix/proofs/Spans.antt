@@ -14,6 +14,8 @@ use Rattle.flt_syntax.specs.Words.{Next, Meant}
 use Rattle.flt_syntax.specs.declared.fault.FaultKind.TheVariants.{E04, E07}
 use Rattle.flt_syntax.specs.declared.fault.SyntaxFault.{SyntaxFault}
 use Rattle.flt_syntax.specs.declared.shape.ContextSource.TheVariants as sources
+use Rattle.flt_syntax.specs.declared.shape.FallibleShape.TheVariants as shapes
+use Rattle.flt_syntax.specs.declared.shape.QueueCall.TheVariants as queued
 use Rattle.flt_syntax.specs.declared.token.Kind.{Kind}
 use Rattle.flt_syntax.specs.declared.token.Token.{Token}
 use Rattle.flt_tree.specs.Declarations.{has_event, has_deferred, has_generic, lacks_pre}
@@ -96,18 +98,26 @@ routine_spans true (calling.routine (words.name e)) = pass stop
 routine_spans false (calling.routine (words.name e)) = take refl stop
 
 module _ (scope : Scope) (cs : List Callback) (from : Head) where
-  fallible_spans : {i o : Input} {c : FallibleCall} → FallibleAt scope i c o → Spans here i (lacking_in cs from c) o
-  fallible_spans (calling.obtain {s = sources.Allocate} n p) = over (fallible_free {scope = scope} (calling.obtain n p))
-  fallible_spans (calling.obtain {s = sources.Get anchor} n p) = over (fallible_free {scope = scope} (calling.obtain n p))
-  fallible_spans (calling.set_context n p q x h) = over (fallible_free {scope = scope} (calling.set_context n p q x h))
-  fallible_spans (calling.delete_context_of n p) = over (fallible_free {scope = scope} (calling.delete_context_of n p))
-  fallible_spans (calling.insert_io q n m p) = over (fallible_free {scope = scope} (calling.insert_io q n m p))
-  fallible_spans (calling.remove_next_io q n p m x) = over (fallible_free {scope = scope} (calling.remove_next_io q n p m x))
-  fallible_spans (calling.queue_deferred {r = r} n m p q) =
+  fallible_spans : {i o : Input} {c : FallibleCall Routine} → FallibleAt scope i c o → Spans here i (lacking_in cs from c) o
+  fallible_spans (calling.fallible {s = shapes.QueueDeferred} n h
+      (calling.slot (calling.data_word m) (calling.slot (calling.routine_name {r = r} p) calling.no_slots)) (calling.with_context q)) =
       then_some (meant_over n) (then_some (next_over m)
       (then_none (routine_spans (has_deferred from r.name cs) p) (over (optional_free refl q))))
-  fallible_spans (calling.queue_generic {r = r} n p q) =
+  fallible_spans (calling.fallible {s = shapes.QueueGeneric} n h
+      (calling.slot (calling.routine_name {r = r} p) calling.no_slots) (calling.with_context q)) =
       then_some (meant_over n) (then_none (routine_spans (has_generic r.name cs) p) (over (optional_free refl q)))
+  fallible_spans (calling.fallible {s = shapes.Obtain sources.Allocate} n h p t) =
+      over (fallible_free {scope = scope} (calling.fallible {s = shapes.Obtain sources.Allocate} n h p t))
+  fallible_spans (calling.fallible {s = shapes.Obtain (sources.Get anchor)} n h p t) =
+      over (fallible_free {scope = scope} (calling.fallible {s = shapes.Obtain (sources.Get anchor)} n h p t))
+  fallible_spans (calling.fallible {s = shapes.Set anchor} n h p t) =
+      over (fallible_free {scope = scope} (calling.fallible {s = shapes.Set anchor} n h p t))
+  fallible_spans (calling.fallible {s = shapes.Delete anchor} n h p t) =
+      over (fallible_free {scope = scope} (calling.fallible {s = shapes.Delete anchor} n h p t))
+  fallible_spans (calling.fallible {s = shapes.Queue queued.Insert} n h p t) =
+      over (fallible_free {scope = scope} (calling.fallible {s = shapes.Queue queued.Insert} n h p t))
+  fallible_spans (calling.fallible {s = shapes.Queue queued.RemoveNext} n h p t) =
+      over (fallible_free {scope = scope} (calling.fallible {s = shapes.Queue queued.RemoveNext} n h p t))
 
   condition_spans : {i o : Input} {c : Condition} → ConditionAt scope i c o → Spans here i (lacking_by cs from c) o
   condition_spans (acting.test p) = over (condition_free {scope = scope} (acting.test p))

@@ -1,10 +1,12 @@
 -- What fails fails so whatever stands behind the token at fault: words, calls, statements and blocks.
-use Rattle.std.proofs.Common.{◌≡◌, ℕ, Bool, false, true, [], ◌∷◌, ◌++◌, refl, sym, ap, subst, ◌∙◌, append_assoc}
+use Rattle.std.proofs.Common.{◌≡◌, ℕ, Bool, false, true, List, [], ◌∷◌, ◌++◌, refl, sym, ap, subst, ◌∙◌, append_assoc}
 use Rattle.std.specs.Prelude.{Option, Some, None}
 use Rattle.flt_rules.specs.declared.call.LockKind.{LockKind}
 use Rattle.flt_syntax.specs.declared.fault.FaultKind.TheVariants.{E01, E02, E03, E04, E05, E06, E08}
 use Rattle.flt_syntax.specs.declared.fault.SyntaxFault.{SyntaxFault}
-use Rattle.flt_syntax.specs.declared.shape.FallibleShape.TheVariants as shapes
+use Rattle.flt_syntax.specs.declared.shape.Operands.{Operands}
+use Rattle.flt_syntax.specs.declared.shape.Slot.{Slot}
+use Rattle.flt_syntax.specs.declared.shape.Tail.{Tail}
 use Rattle.flt_syntax.specs.declared.token.Kind.{Kind}
 use Rattle.flt_syntax.specs.declared.token.Kind.TheVariants as k
 use Rattle.flt_syntax.specs.declared.token.Token.{Token}
@@ -21,7 +23,8 @@ use Rattle.flt_syntax.specs.WordFails as word_fails
 use Rattle.flt_syntax.specs.WordFails.{Refused, Unknown, NextFails, MeantFails, KnownFails, NameFails}
 use Rattle.flt_syntax.specs.WordFails.{NumberFails, OtherFails, OptionalFails, OtherOldFails}
 use Rattle.flt_syntax.specs.CallFails as call_fails
-use Rattle.flt_syntax.specs.CallFails.{StatusFails, OptionalStatusFails, LockFails, FallibleFails, PlainFails}
+use Rattle.flt_syntax.specs.CallFails.{StatusFails, OptionalStatusFails, LockFails, SlotFails}
+use Rattle.flt_syntax.specs.CallFails.{SlotsFail, TailFails, FallibleFails, PlainFails}
 use Rattle.flt_syntax.specs.ActionFails as bad
 use Rattle.flt_syntax.specs.ActionFails.{AtomFails, LeadingFails, ExpressionFails, ActionFails, ConditionFails}
 use Rattle.flt_syntax.specs.StatementFails as statement_fails
@@ -30,7 +33,7 @@ use Rattle.flt_syntax.specs.Cursor.{bytes_of, next}
 use Rattle.flt_tree.specs.Declarations.{lock_number}
 use Rattle.flt_prefix.specs.Prefix.{is_of_token}
 use Rattle.flt_prefix.proofs.Detached.{passable, AllPassed, passed_both, Detached, other_kind, next_free, meant_free, number_free}
-use Rattle.flt_prefix.proofs.Detached.{routine_free, atom_free, condition_free, statement_free, block_free}
+use Rattle.flt_prefix.proofs.Detached.{atom_free, condition_free, statement_free, block_free, slot_free, slots_free}
 
 differ : false ≡ true → ⊥
 differ e = cc
@@ -206,89 +209,56 @@ optional_status_stuck : {i : Input} {f : SyntaxFault} → OptionalStatusFails i 
 optional_status_stuck (call_fails.some b s) e =
     stuck_by (status_stuck s e) (λ z same q. call_fails.some (ap (λ (t : Token). begins_status t.word.kind) same ∙ b) q)
 
+slot_stuck : {scope : Scope} {s : Slot} {x : Operands} {i : Input} {f : SyntaxFault} → SlotFails scope s x i f → is_of_token f.kind ≡ true →
+    Stuck (SlotFails scope s x) i f
+slot_stuck (call_fails.data_word h) e = stuck_by (next_stuck h e) (λ z same y. call_fails.data_word y)
+slot_stuck (call_fails.as_word h) e = stuck_by (next_stuck h e) (λ z same y. call_fails.as_word y)
+slot_stuck (call_fails.context_word h) e = stuck_by (next_stuck h e) (λ z same y. call_fails.context_word y)
+slot_stuck (call_fails.operation h) e = stuck_by (known_stuck h e) (λ z same y. call_fails.operation y)
+slot_stuck (call_fails.removed h) e = stuck_by (known_stuck h e) (λ z same y. call_fails.removed y)
+slot_stuck (call_fails.existing h) e = stuck_by (meant_stuck h e) (λ z same y. call_fails.existing y)
+slot_stuck (call_fails.context h) e = stuck_by (known_stuck h e) (λ z same y. call_fails.context y)
+slot_stuck (call_fails.other h) e = stuck_by (other_stuck h e) (λ z same y. call_fails.other y)
+slot_stuck (call_fails.routine_name h) e = stuck_by (name_stuck h e) (λ z same y. call_fails.routine_name y)
+slot_stuck (call_fails.lock_name h) e = stuck_by (lock_stuck h e) (λ z same y. call_fails.lock_name y)
+
+slots_stuck : {scope : Scope} {ss : List Slot} {x : Operands} {i : Input} {f : SyntaxFault} → SlotsFail scope ss x i f →
+    is_of_token f.kind ≡ true → Stuck (SlotsFail scope ss x) i f
+slots_stuck (call_fails.here h) e = stuck_by (slot_stuck h e) (λ z same y. call_fails.here y)
+slots_stuck (call_fails.later p h) e =
+    let dp = slot_free p in stuck_shift dp (stuck_by (slots_stuck h e) (λ z same y. call_fails.later (dp.again z) y))
+
+tail_stuck : {t : Tail} {x : Operands} {i : Input} {f : SyntaxFault} → TailFails t x i f → is_of_token f.kind ≡ true →
+    Stuck (TailFails t x) i f
+tail_stuck (call_fails.with_context h) e = stuck_by (optional_stuck refl h e) (λ z same y. call_fails.with_context y)
+tail_stuck (call_fails.old h) e = stuck_by (optional_stuck refl h e) (λ z same y. call_fails.old y)
+tail_stuck (call_fails.other_old h) e = stuck_by (other_old_stuck h e) (λ z same y. call_fails.other_old y)
+tail_stuck (call_fails.status h) e = stuck_by (status_stuck h e) (λ z same y. call_fails.status y)
+
 fallible_stuck : {scope : Scope} {i : Input} {f : SyntaxFault} → FallibleFails scope i f → is_of_token f.kind ≡ true →
     Stuck (FallibleFails scope) i f
 fallible_stuck (call_fails.no_fallible {i = i} b r) e =
     stuck_at i (refused_at r) (λ z same. call_fails.no_fallible (next_is begins_fallible i z b same) (refused_again r z same))
-fallible_stuck (call_fails.obtain n h) e =
-    let dn = meant_free (refl, refl, refl) n in stuck_shift dn (stuck_by (known_stuck h e) (λ z same y. call_fails.obtain (dn.again z) y))
-fallible_stuck (call_fails.set_existing n h) e =
-    let dn = meant_free (refl, refl, refl) n in
-    stuck_shift dn (stuck_by (meant_stuck h e) (λ z same y. call_fails.set_existing (dn.again z) y))
-fallible_stuck (call_fails.set_context n p h) e =
-    let dn = meant_free (refl, refl, refl) n in let dp = meant_free (refl, refl, refl) p in stuck_shift dn (stuck_shift dp (stuck_by
-    (known_stuck h e) (λ z same y. call_fails.set_context (dn.again (dp.taken ++ z)) (dp.again z) y)))
-fallible_stuck (call_fails.set_old n p q h) e =
-    let dn = meant_free (refl, refl, refl) n in let dp = meant_free (refl, refl, refl) p in let dq = meant_free (refl, refl, refl) q in
-    stuck_shift dn (stuck_shift dp (stuck_shift dq (stuck_by (other_old_stuck h e)
-    (λ z same y. call_fails.set_old (dn.again (dp.taken ++ (dq.taken ++ z))) (dp.again (dq.taken ++ z)) (dq.again z) y))))
-fallible_stuck (call_fails.delete_context_of n h) e =
-    let dn = meant_free (refl, refl, refl) n in stuck_shift dn (stuck_by (optional_stuck refl h e)
-    (λ z same y. call_fails.delete_context_of (dn.again z) y))
-fallible_stuck {scope = scope} (call_fails.queue_unknown {x = x} (words.meant {t = t} {o = o} m) q) e =
+fallible_stuck {scope = scope} (call_fails.unknown_call {s = s} (words.meant {t = t} {o = o} m) q) e =
     stuck_at (t ∷ o) refl (λ z same. subst (FallibleFails scope z) (ap (λ (t : Token). fault E04 t.position) same)
-    (call_fails.queue_unknown (meant_again fallible_shape_of (shapes.Queue x) t z refl m same) q))
-fallible_stuck (call_fails.insert_data q n h) e =
+    (call_fails.unknown_call (meant_again fallible_shape_of s t z refl m same) q))
+fallible_stuck (call_fails.fallible_slot n q h) e =
     let dn = meant_free (refl, refl, refl) n in
-    stuck_shift dn (stuck_by (next_stuck h e) (λ z same y. call_fails.insert_data q (dn.again z) y))
-fallible_stuck (call_fails.insert_context q n m h) e =
-    let dn = meant_free (refl, refl, refl) n in let dm = next_free refl m in stuck_shift dn (stuck_shift dm (stuck_by
-    (optional_stuck refl h e) (λ z same y. call_fails.insert_context q (dn.again (dm.taken ++ z)) (dm.again z) y)))
-fallible_stuck (call_fails.remove_operation q n h) e =
-    let dn = meant_free (refl, refl, refl) n in
-    stuck_shift dn (stuck_by (known_stuck h e) (λ z same y. call_fails.remove_operation q (dn.again z) y))
-fallible_stuck (call_fails.remove_word q n p h) e =
-    let dn = meant_free (refl, refl, refl) n in let dp = meant_free (refl, refl, refl) p in stuck_shift dn (stuck_shift dp (stuck_by
-    (next_stuck h e) (λ z same y. call_fails.remove_word q (dn.again (dp.taken ++ z)) (dp.again z) y)))
-fallible_stuck (call_fails.remove_context q n p m h) e =
-    let dn = meant_free (refl, refl, refl) n in let dp = meant_free (refl, refl, refl) p in let dm = next_free refl m in
-    stuck_shift dn (stuck_shift dp (stuck_shift dm (stuck_by (known_stuck h e)
-    (λ z same y. call_fails.remove_context q (dn.again (dp.taken ++ (dm.taken ++ z))) (dp.again (dm.taken ++ z)) (dm.again z) y))))
-fallible_stuck (call_fails.deferred_data n h) e =
-    let dn = meant_free (refl, refl, refl) n in
-    stuck_shift dn (stuck_by (next_stuck h e) (λ z same y. call_fails.deferred_data (dn.again z) y))
-fallible_stuck (call_fails.deferred_name n m h) e =
-    let dn = meant_free (refl, refl, refl) n in let dm = next_free refl m in stuck_shift dn (stuck_shift dm (stuck_by (name_stuck h e)
-    (λ z same y. call_fails.deferred_name (dn.again (dm.taken ++ z)) (dm.again z) y)))
-fallible_stuck (call_fails.deferred_context n m p h) e =
-    let dn = meant_free (refl, refl, refl) n in let dm = next_free refl m in let dp = routine_free p in
-    stuck_shift dn (stuck_shift dm (stuck_shift dp (stuck_by (optional_stuck refl h e)
-    (λ z same y. call_fails.deferred_context (dn.again (dm.taken ++ (dp.taken ++ z))) (dm.again (dp.taken ++ z)) (dp.again z) y))))
-fallible_stuck (call_fails.generic_name n h) e =
-    let dn = meant_free (refl, refl, refl) n in
-    stuck_shift dn (stuck_by (name_stuck h e) (λ z same y. call_fails.generic_name (dn.again z) y))
-fallible_stuck (call_fails.generic_context n p h) e =
-    let dn = meant_free (refl, refl, refl) n in let dp = routine_free p in stuck_shift dn (stuck_shift dp (stuck_by
-    (optional_stuck refl h e) (λ z same y. call_fails.generic_context (dn.again (dp.taken ++ z)) (dp.again z) y)))
+    stuck_shift dn (stuck_by (slots_stuck h e) (λ z same y. call_fails.fallible_slot (dn.again z) q y))
+fallible_stuck (call_fails.fallible_end n q p h) e =
+    let dn = meant_free (refl, refl, refl) n in let dp = slots_free p in stuck_shift dn (stuck_shift dp (stuck_by
+    (tail_stuck h e) (λ z same y. call_fails.fallible_end (dn.again (dp.taken ++ z)) q (dp.again z) y)))
 
 plain_stuck : {scope : Scope} {i : Input} {f : SyntaxFault} → PlainFails scope i f → is_of_token f.kind ≡ true →
     Stuck (PlainFails scope) i f
 plain_stuck (call_fails.no_plain {i = i} b r) e =
     stuck_at i (refused_at r) (λ z same. call_fails.no_plain (next_is begins_plain i z b same) (refused_again r z same))
-plain_stuck (call_fails.end_context n h) e =
+plain_stuck (call_fails.plain_slot n h) e =
     let dn = meant_free (refl, refl, refl) n in
-    stuck_shift dn (stuck_by (known_stuck h e) (λ z same y. call_fails.end_context (dn.again z) y))
-plain_stuck (call_fails.reference_context n h) e =
-    let dn = meant_free (refl, refl, refl) n in
-    stuck_shift dn (stuck_by (known_stuck h e) (λ z same y. call_fails.reference_context (dn.again z) y))
-plain_stuck (call_fails.reference_word n p h) e =
-    let dn = meant_free (refl, refl, refl) n in let dp = meant_free (refl, refl, refl) p in stuck_shift dn (stuck_shift dp (stuck_by
-    (next_stuck h e) (λ z same y. call_fails.reference_word (dn.again (dp.taken ++ z)) (dp.again z) y)))
-plain_stuck (call_fails.reference_copy n p m h) e =
-    let dn = meant_free (refl, refl, refl) n in let dp = meant_free (refl, refl, refl) p in let dm = next_free refl m in
-    stuck_shift dn (stuck_shift dp (stuck_shift dm (stuck_by (other_stuck h e)
-    (λ z same y. call_fails.reference_copy (dn.again (dp.taken ++ (dm.taken ++ z))) (dp.again (dm.taken ++ z)) (dm.again z) y))))
-plain_stuck (call_fails.lock_call n h) e =
-    let dn = meant_free (refl, refl, refl) n in stuck_shift dn (stuck_by (lock_stuck h e) (λ z same y. call_fails.lock_call (dn.again z) y))
-plain_stuck (call_fails.complete_pre_operation n h) e =
-    let dn = meant_free (refl, refl, refl) n in
-    stuck_shift dn (stuck_by (known_stuck h e) (λ z same y. call_fails.complete_pre_operation (dn.again z) y))
-plain_stuck (call_fails.complete_pre_status n p h) e =
-    let dn = meant_free (refl, refl, refl) n in let dp = meant_free (refl, refl, refl) p in stuck_shift dn (stuck_shift dp (stuck_by
-    (status_stuck h e) (λ z same y. call_fails.complete_pre_status (dn.again (dp.taken ++ z)) (dp.again z) y)))
-plain_stuck (call_fails.complete_post n h) e =
-    let dn = meant_free (refl, refl, refl) n in
-    stuck_shift dn (stuck_by (next_stuck h e) (λ z same y. call_fails.complete_post (dn.again z) y))
+    stuck_shift dn (stuck_by (slots_stuck h e) (λ z same y. call_fails.plain_slot (dn.again z) y))
+plain_stuck (call_fails.plain_end n p h) e =
+    let dn = meant_free (refl, refl, refl) n in let dp = slots_free p in stuck_shift dn (stuck_shift dp (stuck_by
+    (tail_stuck h e) (λ z same y. call_fails.plain_end (dn.again (dp.taken ++ z)) (dp.again z) y)))
 
 atom_stuck : {i : Input} {f : SyntaxFault} → AtomFails i f → is_of_token f.kind ≡ true → Stuck AtomFails i f
 atom_stuck (bad.no_atom {i = i} b n u) e = stuck_at i (unknown_at u) (λ z same.

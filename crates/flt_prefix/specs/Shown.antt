@@ -16,6 +16,7 @@ use Rattle.flt_tree.specs.declared.filter.Filter.{Filter}
 use Rattle.flt_tree.specs.declared.filter.Head.{Head}
 use Rattle.flt_tree.specs.declared.filter.Head.TheVariants.{Canceled}
 use Rattle.flt_tree.specs.declared.filter.Position.{Position}
+use Rattle.flt_tree.specs.declared.filter.Routine.{Routine}
 use Rattle.flt_tree.specs.declared.filter.Statement.{Statement}
 use Rattle.flt_tree.specs.declared.filter.Statement.TheOpen.{Statement-F}
 use Rattle.flt_tree.specs.declared.filter.Statement.TheFolds.{fold-Statement}
@@ -30,7 +31,7 @@ abbrev pub unless_found : {A : Type 0} → Bool → A → List A
 unless_found found a = if found then [] else a ∷ []
 
 -- the routine that a call names, where it isn't among the callbacks, or isn't of the kind that may be called from there
-abbrev pub lacking_in : List Callback → Head → FallibleCall → List Position
+abbrev pub lacking_in : List Callback → Head → FallibleCall Routine → List Position
 lacking_in cs from (QueueDeferredIoWorkItem r context) = unless_found (has_deferred from r.name cs) r.position
 lacking_in cs from (QueueGenericWorkItem r context) = unless_found (has_generic r.name cs) r.position
 lacking_in cs from _ = []

@@ -1,4 +1,5 @@
 pub mod Alike
+pub mod Appended
 pub mod Appending
 pub mod LaidOut
 pub mod Pieces

@@ -1,60 +1,59 @@
 -- The words of statuses, calls, tests and actions say them.
-use Rattle.std.proofs.Common.{◌≡◌, Bool, true, List, [], ◌∷◌, refl}
-use Rattle.std.specs.Prelude.{Option, Some, None}
-use Rattle.flt_rules.specs.declared.call.Anchor.{Anchor}
-use Rattle.flt_rules.specs.declared.call.Anchor.TheVariants.{Stream, Instance}
-use Rattle.flt_rules.specs.declared.call.LockKind.{LockKind}
-use Rattle.flt_rules.specs.declared.call.LockKind.TheVariants.{Spin, Fast, Push}
+use Rattle.flt_print.proofs.Alike.{AlikeCall, same, deferred, generic, AlikeCondition, a_test, a_call}
+use Rattle.flt_print.proofs.Pieces.{reads_back, less_piece, plus_piece, minus_piece, assign_piece, equal_piece, differs_piece}
+use Rattle.flt_print.proofs.Said.{Span, Says, says_both, says_by, says_none, says_next, says_kind, says_meant, says_name, says_number}
+use Rattle.flt_print.proofs.SaidWords.{says_existing, says_fallible_shape, says_plain_shape}
+use Rattle.flt_print.proofs.SaidWords.{says_number_variable, says_context, says_removed, says_operation_variable, says_final_status}
+use Rattle.flt_print.specs.ActionWords.{expression_words, action_words, test_words, condition_words}
+use Rattle.flt_print.specs.CallWords.{fallible_words, plain_words}
+use Rattle.flt_print.specs.CallWords.{optional_words, status_words, optional_status_words, slot_word, tail_words, operand_words}
+use Rattle.flt_print.specs.Operands.{Operands, fallible_shape, fallible_operands, plain_shape, plain_operands}
+use Rattle.flt_print.specs.Vocabulary.{spelling, atom_word}
+use Rattle.flt_rules.specs.declared.call.LockNumber.TheVariants.{L0}
 use Rattle.flt_rules.specs.declared.call.LockNumber.{LockNumber}
 use Rattle.flt_syntax.specs.ActionGrammar as actions
 use Rattle.flt_syntax.specs.ActionGrammar.{AtomAt, ExpressionAt, ActionAt, TestAt, ConditionAt}
-use Rattle.flt_print.specs.ActionWords.{expression_words, action_words, test_words, condition_words}
 use Rattle.flt_syntax.specs.CallGrammar as calls
-use Rattle.flt_syntax.specs.CallGrammar.{StatusAt, OptionalStatusAt, LockAt, FallibleAt, PlainAt}
-use Rattle.flt_print.specs.CallWords.{optional_words, status_words, optional_status_words, fallible_words, plain_words}
-use Rattle.flt_tree.specs.Declarations.{lock_name}
-use Rattle.flt_syntax.specs.Cursor.{position}
-use Rattle.flt_tree.specs.Names.{Text}
+use Rattle.flt_syntax.specs.CallGrammar.{StatusAt, OptionalStatusAt, SlotAt, SlotsAt, TailAt, FallibleAt, PlainAt}
+use Rattle.flt_syntax.specs.Cursor.{Input, position}
 use Rattle.flt_syntax.specs.Lex.{keyword, same_kind}
 use Rattle.flt_syntax.specs.Scope.{Scope}
-use Rattle.flt_syntax.specs.Tables.{bare_status_of, fallible_shape_of, plain_shape_of}
-use Rattle.flt_print.specs.Vocabulary.{spelling, atom_word, acquire_kind, release_kind, get_kind, set_kind, delete_kind}
-use Rattle.flt_tree.specs.WellFormed.{IsAtom, IsExpression, IsAction, IsTest, IsFallible, IsCondition, IsLock, IsPlain}
+use Rattle.flt_syntax.specs.Shape.{unfilled, fallible_slots, fallible_tail, fallible_of, is_known, plain_slots, plain_tail, plain_of}
+use Rattle.flt_syntax.specs.Tables.{bare_status_of}
 use Rattle.flt_syntax.specs.Words as words
 use Rattle.flt_syntax.specs.Words.{Meant, OptionalAt}
-use Rattle.flt_tree.specs.declared.filter.Action.{Action}
-use Rattle.flt_tree.specs.declared.filter.Action.TheVariants.{SetNumber, ReadValue, ReadFile, WriteValue, ClearContext, ClearOperation}
-use Rattle.flt_tree.specs.declared.filter.Condition.{Condition}
-use Rattle.flt_tree.specs.declared.filter.Condition.TheVariants as made
-use Rattle.flt_tree.specs.declared.filter.FallibleCall.{FallibleCall}
-use Rattle.flt_tree.specs.declared.filter.FallibleCall.TheVariants as fallible
-use Rattle.flt_tree.specs.declared.filter.Lock.{Lock}
-use Rattle.flt_tree.specs.declared.filter.PlainCall.{PlainCall}
-use Rattle.flt_tree.specs.declared.filter.PlainCall.TheVariants as plain
-use Rattle.flt_tree.specs.declared.filter.Status.{Status}
-use Rattle.flt_tree.specs.declared.filter.Status.TheVariants as statuses
-use Rattle.flt_tree.specs.declared.filter.Test.{Test}
-use Rattle.flt_tree.specs.declared.filter.Test.TheVariants.{ContextIsSome, OperationIsSome, Equal, Less, IsIrp, IsDraining}
-use Rattle.flt_syntax.specs.declared.shape.ContextEnd.TheVariants as ends
-use Rattle.flt_syntax.specs.declared.shape.ContextSource.TheVariants as sources
-use Rattle.flt_syntax.specs.declared.shape.FallibleShape.{FallibleShape}
-use Rattle.flt_syntax.specs.declared.shape.FallibleShape.TheVariants as shapes
-use Rattle.flt_syntax.specs.declared.shape.LockCall.TheVariants as does
-use Rattle.flt_syntax.specs.declared.shape.PlainShape.{PlainShape}
-use Rattle.flt_syntax.specs.declared.shape.PlainShape.TheVariants as plain_shapes
-use Rattle.flt_syntax.specs.declared.shape.QueueCall.TheVariants as queued
-use Rattle.flt_syntax.specs.declared.token.Kind.{Kind}
+use Rattle.flt_syntax.specs.declared.shape.Operands as read
+use Rattle.flt_syntax.specs.declared.shape.Slot.TheVariants as part
+use Rattle.flt_syntax.specs.declared.shape.Slot.{Slot}
+use Rattle.flt_syntax.specs.declared.shape.Tail.TheVariants as last
+use Rattle.flt_syntax.specs.declared.shape.Tail.{Tail}
 use Rattle.flt_syntax.specs.declared.token.Kind.TheVariants as k
-use Rattle.flt_tree.specs.declared.variable.Atom.{Atom}
+use Rattle.flt_syntax.specs.declared.token.Kind.{Kind}
+use Rattle.flt_tree.specs.Declarations.{lock_number}
+use Rattle.flt_tree.specs.Names.{Text, is_name}
+use Rattle.flt_tree.specs.WellFormed.{IsAtom, IsExpression, IsAction, IsTest, IsFallible, IsCondition, IsPlain}
+use Rattle.flt_tree.specs.declared.filter.Action.TheVariants.{SetNumber, ReadValue, ReadFile, WriteValue, ClearContext, ClearOperation}
+use Rattle.flt_tree.specs.declared.filter.Action.{Action}
+use Rattle.flt_tree.specs.declared.filter.Condition.TheVariants as made
+use Rattle.flt_tree.specs.declared.filter.Condition.{Condition}
+use Rattle.flt_tree.specs.declared.filter.FallibleCall.TheVariants as fallible
+use Rattle.flt_tree.specs.declared.filter.FallibleCall.{FallibleCall}
+use Rattle.flt_tree.specs.declared.filter.Lock.{Lock}
+use Rattle.flt_tree.specs.declared.filter.PlainCall.TheVariants as plain
+use Rattle.flt_tree.specs.declared.filter.PlainCall.{PlainCall}
+use Rattle.flt_tree.specs.declared.filter.Position.{Position}
+use Rattle.flt_tree.specs.declared.filter.Routine.{Routine}
+use Rattle.flt_tree.specs.declared.filter.Status.TheVariants as statuses
+use Rattle.flt_tree.specs.declared.filter.Status.{Status}
+use Rattle.flt_tree.specs.declared.filter.Test.TheVariants.{ContextIsSome, OperationIsSome, Equal, Less, IsIrp, IsDraining}
+use Rattle.flt_tree.specs.declared.filter.Test.{Test}
 use Rattle.flt_tree.specs.declared.variable.Atom.TheVariants as atoms
+use Rattle.flt_tree.specs.declared.variable.Atom.{Atom}
 use Rattle.flt_tree.specs.declared.variable.ContextVariable.{ContextVariable}
-use Rattle.flt_tree.specs.declared.variable.Expression.{Expression}
 use Rattle.flt_tree.specs.declared.variable.Expression.TheVariants as expressions
-use Rattle.flt_print.proofs.Alike.{AlikeCall, same, deferred, generic, AlikeCondition, a_test, a_call}
-use Rattle.flt_print.proofs.Pieces.{reads_back, less_piece, plus_piece, minus_piece, assign_piece, equal_piece, differs_piece}
-use Rattle.flt_print.proofs.Said.{Says, says_both, says_by, says_none, says_next, says_kind, says_meant, says_name, says_number}
-use Rattle.flt_print.proofs.SaidWords.{says_number_variable, says_context, says_removed, says_operation_variable}
-use Rattle.flt_print.proofs.SaidWords.{says_final_status, says_existing}
+use Rattle.flt_tree.specs.declared.variable.Expression.{Expression}
+use Rattle.std.proofs.Common.{◌≡◌, ◌≢◌, Bool, true, List, [], ◌∷◌, map, refl, subst}
+use Rattle.std.specs.Prelude.{Option, Some, None}
 
 module _ (text : Text) (locks : List Lock) (queue : Bool) where
   abbrev pub scope : Scope
@@ -87,113 +86,155 @@ module _ (text : Text) (locks : List Lock) (queue : Bool) where
   says_optional_status None = says_none (λ i. calls.no_status)
   says_optional_status (Some s) = says_by (says_status s) (λ i o p. calls.some_status p)
 
-  -- the word of a call says its shape
-  says_shape : (kd : Kind) (s : FallibleShape) → reads_back kd ≡ true → fallible_shape_of kd ≡ Some s →
-      Says text (spelling kd ∷ []) (λ i o. Meant fallible_shape_of i s o)
-  says_shape kd s e h = says_meant fallible_shape_of kd s e h
+  -- the operands of a call where it is printed, and the number of its lock
+  module _ (x : Operands) (l : LockNumber) where
+    -- a name fills a slot
+    abbrev IsNamed : Slot → Type 0
+    IsNamed part.Routine = is_name x.name ≡ true
+    IsNamed (part.Lock kind) = is_name x.name ≡ true
+    IsNamed _ = Unit {0}
 
-  says_get : (x : Anchor) → Says text (spelling (get_kind x) ∷ []) (λ i o. Meant fallible_shape_of i (shapes.Obtain (sources.Get x)) o)
-  unfolding spelling keyword same_kind
-  says_get Stream = says_shape k.GetStreamContext (shapes.Obtain (sources.Get Stream)) refl refl
-  says_get Instance = says_shape k.GetInstanceContext (shapes.Obtain (sources.Get Instance)) refl refl
+    abbrev AreNamed : List Slot → Type 0
+    AreNamed [] = Unit {0}
+    AreNamed (s ∷ ss) = IsNamed s × AreNamed ss
 
-  says_set : (x : Anchor) → Says text (spelling (set_kind x) ∷ []) (λ i o. Meant fallible_shape_of i (shapes.Set x) o)
-  unfolding spelling keyword same_kind
-  says_set Stream = says_shape k.SetStreamContext (shapes.Set Stream) refl refl
-  says_set Instance = says_shape k.SetInstanceContext (shapes.Set Instance) refl refl
+    -- the operands after a slot, where it is read at a place
+    abbrev filled : Position → Slot → read.Operands → read.Operands
+    filled at part.Operation y = record y { operation = x.operation }
+    filled at part.Removed y = record y { removed = x.removed }
+    filled at part.Existing y = record y { existing = x.existing }
+    filled at part.Context y = record y { context = x.context }
+    filled at part.Other y = record y { other = x.other }
+    filled at part.Routine y = record y { routine = record { name = x.name; position = at } }
+    filled at (part.Lock kind) y = record y { lock = l }
+    filled at _ y = y
 
-  says_delete : (x : Anchor) → Says text (spelling (delete_kind x) ∷ []) (λ i o. Meant fallible_shape_of i (shapes.Delete x) o)
-  unfolding spelling keyword same_kind
-  says_delete Stream = says_shape k.DeleteStreamContext (shapes.Delete Stream) refl refl
-  says_delete Instance = says_shape k.DeleteInstanceContext (shapes.Delete Instance) refl refl
+    -- what a slot wants of the operands before it
+    abbrev Fits : Slot → read.Operands → Type 0
+    Fits part.Other y = x.other ≢ y.context
+    Fits (part.Lock kind) y = lock_number kind x.name locks ≡ Some l
+    Fits _ y = Unit {0}
 
-  -- a call, but for where a routine's name stands
-  pub says_call : (c : FallibleCall) → IsFallible queue c →
-      Says text (fallible_words c) (λ i o. (d : FallibleCall) × FallibleAt scope i d o × AlikeCall c d)
-  unfolding spelling keyword same_kind
-  says_call (fallible.AllocateContext c) h =
-      says_by (says_both (says_shape k.AllocateContext (shapes.Obtain sources.Allocate) refl refl) (says_context c))
-      (λ i o p. (fallible.AllocateContext c, calls.obtain p.1 p.2, same))
-  says_call (fallible.GetContext x c) h =
-      says_by (says_both (says_get x) (says_context c)) (λ i o p. (fallible.GetContext x c, calls.obtain p.1 p.2, same))
-  says_call (fallible.SetContext x e c old) h =
-      says_by (says_both (says_set x) (says_both (says_existing e) (says_both (says_context c) (says_optional k.Old refl old))))
-      (λ i o p. (fallible.SetContext x e c old, calls.set_context p.1 p.2.1 p.2.2.1 p.2.2.2 h, same))
-  says_call (fallible.DeleteContextOf x old) h =
-      says_by (says_both (says_delete x) (says_optional k.Old refl old))
-      (λ i o p. (fallible.DeleteContextOf x old, calls.delete_context_of p.1 p.2, same))
-  says_call (fallible.InsertIo c) h =
-      says_by (says_both (says_shape k.InsertIo (shapes.Queue queued.Insert) refl refl)
-      (says_both (says_kind k.Data refl) (says_optional k.Context refl c)))
-      (λ i o p. (fallible.InsertIo c, calls.insert_io h p.1 p.2.1 p.2.2, same))
-  says_call (fallible.RemoveNextIo x c) h =
-      says_by (says_both (says_shape k.RemoveNextIo (shapes.Queue queued.RemoveNext) refl refl)
-      (says_both (says_removed x) (says_both (says_kind k.Context refl) (says_context c))))
-      (λ i o p. (fallible.RemoveNextIo x c, calls.remove_next_io h p.1 p.2.1 p.2.2.1 p.2.2.2, same))
-  says_call (fallible.QueueDeferredIoWorkItem r c) h =
-      says_by (says_both (says_shape k.QueueDeferredIoWorkItem shapes.QueueDeferred refl refl)
-      (says_both (says_kind k.Data refl) (says_both (says_name r.name h) (says_optional k.Context refl c))))
-      (λ i o p. (
-        fallible.QueueDeferredIoWorkItem (record { name = r.name; position = position p.2.0 }) c,
-        calls.queue_deferred p.1 p.2.1 (calls.routine p.2.2.1) p.2.2.2,
-        deferred refl,
-      ))
-  says_call (fallible.QueueGenericWorkItem r c) h =
-      says_by (says_both (says_shape k.QueueGenericWorkItem shapes.QueueGeneric refl refl)
-      (says_both (says_name r.name h) (says_optional k.Context refl c)))
-      (λ i o p. (
-        fallible.QueueGenericWorkItem (record { name = r.name; position = position p.0 }) c,
-        calls.queue_generic p.1 (calls.routine p.2.1) p.2.2,
-        generic refl,
-      ))
+    -- what is true of the operands after slots, wherever they are read
+    abbrev After : (read.Operands → Type 0) → List Slot → read.Operands → Type 0
+    After Q [] y = Q y
+    After Q (s ∷ ss) y = Fits s y × ((at : Position) → After Q ss (filled at s y))
 
-  says_lock : (kind : LockKind) (l : LockNumber) → IsLock locks kind l → Says text (lock_name locks l ∷ []) (λ i o. LockAt scope kind i l o)
-  says_lock kind l h = says_by (says_name (lock_name locks l) h.0) (λ i o p. calls.lock p h.1)
+    says_slot : (s : Slot) → IsNamed s →
+        Says text (slot_word x s ∷ []) (λ i o. (y : read.Operands) → Fits s y → SlotAt scope s y i (filled (position i) s y) o)
+    unfolding spelling keyword same_kind
+    says_slot part.Data n = says_by (says_kind k.Data refl) (λ i o p y f. calls.data_word p)
+    says_slot part.As n = says_by (says_kind k.As refl) (λ i o p y f. calls.as_word p)
+    says_slot part.With n = says_by (says_kind k.Context refl) (λ i o p y f. calls.context_word p)
+    says_slot part.Operation n = says_by (says_operation_variable x.operation) (λ i o p y f. calls.operation p)
+    says_slot part.Removed n = says_by (says_removed x.removed) (λ i o p y f. calls.removed p)
+    says_slot part.Existing n = says_by (says_existing x.existing) (λ i o p y f. calls.existing p)
+    says_slot part.Context n = says_by (says_context x.context) (λ i o p y f. calls.context p)
+    says_slot part.Other n = says_by (says_context x.other) (λ i o p y f. calls.other p f)
+    says_slot part.Routine n = says_by (says_name x.name n) (λ i o p y f. calls.routine_name (calls.routine p))
+    says_slot (part.Lock kind) n = says_by (says_name x.name n) (λ i o p y f. calls.lock_name (calls.lock p f))
 
-  -- the word of a call says its shape
-  says_plain_shape : (kd : Kind) (s : PlainShape) → reads_back kd ≡ true → plain_shape_of kd ≡ Some s →
-      Says text (spelling kd ∷ []) (λ i o. Meant plain_shape_of i s o)
-  says_plain_shape kd s e h = says_meant plain_shape_of kd s e h
+    says_slots : (Q : read.Operands → Type 0) (ss : List Slot) → AreNamed ss →
+        Says text (map (slot_word x) ss)
+        (λ i o. (y : read.Operands) → After Q ss y → (z : read.Operands) × SlotsAt scope ss y i z o × Q z)
+    says_slots Q [] n = says_none (λ i y q. (y, calls.no_slots, q))
+    says_slots Q (s ∷ ss) n =
+        says_by (says_both (says_slot s n.0) (says_slots Q ss n.1)) (λ i o p y q.
+        let r = p.2 (filled (position i) s y) (q.1 (position i)) in
+        (r.0, calls.slot (p.1 y q.0) r.1, r.2))
 
-  says_acquire : (kind : LockKind) →
-      Says text (spelling (acquire_kind kind) ∷ []) (λ i o. Meant plain_shape_of i (plain_shapes.Lock (does.Acquire kind)) o)
-  unfolding spelling keyword same_kind
-  says_acquire Spin = says_plain_shape k.AcquireSpinLock (plain_shapes.Lock (does.Acquire Spin)) refl refl
-  says_acquire Fast = says_plain_shape k.AcquireFastMutex (plain_shapes.Lock (does.Acquire Fast)) refl refl
-  says_acquire Push = says_plain_shape k.AcquirePushLock (plain_shapes.Lock (does.Acquire Push)) refl refl
+    -- the operands after what ends a call
+    abbrev ended : Tail → read.Operands → read.Operands
+    ended last.Nothing y = y
+    ended last.Status y = record y { status = x.status }
+    ended _ y = record y { optional = x.optional }
 
-  says_release : (kind : LockKind) →
-      Says text (spelling (release_kind kind) ∷ []) (λ i o. Meant plain_shape_of i (plain_shapes.Lock (does.Release kind)) o)
-  unfolding spelling keyword same_kind
-  says_release Spin = says_plain_shape k.ReleaseSpinLock (plain_shapes.Lock (does.Release Spin)) refl refl
-  says_release Fast = says_plain_shape k.ReleaseFastMutex (plain_shapes.Lock (does.Release Fast)) refl refl
-  says_release Push = says_plain_shape k.ReleasePushLock (plain_shapes.Lock (does.Release Push)) refl refl
+    -- what it wants of the operands before it
+    abbrev Ends : Tail → read.Operands → Type 0
+    Ends last.OtherOld y = x.optional ≢ Some y.context
+    Ends _ y = Unit {0}
 
-  -- the words of a plain call say it
+    says_tail : (t : Tail) → Says text (tail_words x t) (λ i o. (y : read.Operands) → Ends t y → TailAt t y i (ended t y) o)
+    unfolding spelling keyword same_kind
+    says_tail last.Nothing = says_none (λ i y e. calls.nothing)
+    says_tail last.With = says_by (says_optional k.Context refl x.optional) (λ i o p y e. calls.with_context p)
+    says_tail last.Old = says_by (says_optional k.Old refl x.optional) (λ i o p y e. calls.old p)
+    says_tail last.OtherOld = says_by (says_optional k.Old refl x.optional) (λ i o p y e. calls.other_old p e)
+    says_tail last.Status = says_by (says_status x.status) (λ i o p y e. calls.status p)
+
+    -- what is true of the operands of a whole call, wherever it is read
+    abbrev Read : (read.Operands → Type 0) → List Slot → Tail → Type 0
+    Read Q ss t = After (λ y. Ends t y × Q (ended t y)) ss unfilled
+
+    -- operands of which something is true, from the first slot on
+    abbrev OperandsAt : (read.Operands → Type 0) → List Slot → Tail → Span
+    OperandsAt Q ss t i o =
+        (y : read.Operands) × (z : read.Operands) × (j : Input) × SlotsAt scope ss unfilled i y j × TailAt t y j z o × Q z
+
+    says_operands : (Q : read.Operands → Type 0) (ss : List Slot) (t : Tail) → AreNamed ss → Read Q ss t →
+        Says text (operand_words x ss t) (OperandsAt Q ss t)
+    says_operands Q ss t n r =
+        says_by (says_both (says_slots (λ y. Ends t y × Q (ended t y)) ss n) (says_tail t)) (λ i o p.
+        let s = p.1 unfilled r in (s.0, ended t s.0, p.0, s.1, p.2 s.0 s.2.0, s.2.1))
+
+  -- a call that its words say, but for where a routine's name stands
+  record IsReadable (c : FallibleCall Routine) : Type 0 where
+    known : is_known queue (fallible_shape c) ≡ true
+    named : AreNamed (fallible_operands c) L0 (fallible_slots (fallible_shape c))
+    alike : Read (fallible_operands c) L0 (λ y. AlikeCall c (fallible_of (fallible_shape c) y)) (fallible_slots (fallible_shape c))
+        (fallible_tail (fallible_shape c))
+
+  readable : (c : FallibleCall Routine) → IsFallible queue c → IsReadable c
+  readable (fallible.AllocateContext c) h = record { known = refl; named = (tt, tt); alike = (tt, λ at. (tt, same)) }
+  readable (fallible.GetContext x c) h = record { known = refl; named = (tt, tt); alike = (tt, λ at. (tt, same)) }
+  readable (fallible.SetContext x e c old) h =
+      record { known = refl; named = (tt, (tt, tt)); alike = (tt, λ at. (tt, λ at. (h, same))) }
+  readable (fallible.DeleteContextOf x old) h = record { known = refl; named = tt; alike = (tt, same) }
+  readable (fallible.InsertIo c) h = record { known = h; named = (tt, tt); alike = (tt, λ at. (tt, same)) }
+  readable (fallible.RemoveNextIo x c) h =
+      record { known = h; named = (tt, (tt, (tt, tt))); alike = (tt, λ at. (tt, λ at. (tt, λ at. (tt, same)))) }
+  readable (fallible.QueueDeferredIoWorkItem r c) h =
+      record { known = refl; named = (tt, (h, tt)); alike = (tt, λ at. (tt, λ at. (tt, deferred refl))) }
+  readable (fallible.QueueGenericWorkItem r c) h = record { known = refl; named = (h, tt); alike = (tt, λ at. (tt, generic refl)) }
+
+  -- the words of a call that can fail say it, but for where a routine's name stands
+  pub says_call : (c : FallibleCall Routine) → IsFallible queue c →
+      Says text (fallible_words c) (λ i o. (d : FallibleCall Routine) × FallibleAt scope i d o × AlikeCall c d)
+  says_call c h =
+      let r = readable c h in
+      let s = fallible_shape c in
+      says_by
+      (says_both (says_fallible_shape s)
+      (says_operands (fallible_operands c) L0 (λ y. AlikeCall c (fallible_of s y)) (fallible_slots s) (fallible_tail s) r.named r.alike))
+      (λ i o p. (fallible_of s p.2.1, calls.fallible p.1 r.known p.2.3 p.2.4, p.2.5))
+
+  -- a call that its words say
+  record IsPlainReadable (c : PlainCall) : Type 0 where
+    lock : LockNumber
+    named : AreNamed (plain_operands locks c) lock (plain_slots (plain_shape c))
+    said : Read (plain_operands locks c) lock (λ y. plain_of (plain_shape c) y ≡ c) (plain_slots (plain_shape c))
+        (plain_tail (plain_shape c))
+
+  plain_readable : (c : PlainCall) → IsPlain locks c → IsPlainReadable c
+  plain_readable (plain.DeleteContext c) h = record { lock = L0; named = (tt, tt); said = (tt, λ at. (tt, refl)) }
+  plain_readable (plain.ReferenceContext c d) h =
+      record { lock = L0; named = (tt, (tt, (tt, tt))); said = (tt, λ at. (tt, λ at. (h, λ at. (tt, refl)))) }
+  plain_readable (plain.ReleaseContext c) h = record { lock = L0; named = (tt, tt); said = (tt, λ at. (tt, refl)) }
+  plain_readable (plain.AcquireLock kind l) h = record { lock = l; named = (h.0, tt); said = (h.1, λ at. (tt, refl)) }
+  plain_readable (plain.AcquirePushLockShared l) h = record { lock = l; named = (h.0, tt); said = (h.1, λ at. (tt, refl)) }
+  plain_readable (plain.ReleaseLock kind l) h = record { lock = l; named = (h.0, tt); said = (h.1, λ at. (tt, refl)) }
+  plain_readable (plain.CompletePendedPreOperation d s) h = record { lock = L0; named = (tt, tt); said = (tt, λ at. (tt, refl)) }
+  plain_readable plain.CompletePendedPostOperation h = record { lock = L0; named = (tt, tt); said = (tt, λ at. (tt, refl)) }
+
+  -- the words of a call that always succeeds say it
   pub says_plain : (c : PlainCall) → IsPlain locks c → Says text (plain_words locks c) (λ i o. PlainAt scope i c o)
-  unfolding spelling keyword same_kind
-  says_plain (plain.DeleteContext c) h =
-      says_by (says_both (says_plain_shape k.DeleteContext (plain_shapes.End ends.Delete) refl refl) (says_context c))
-      (λ i o p. calls.end_context p.1 p.2)
-  says_plain (plain.ReferenceContext c d) h =
-      says_by (says_both (says_plain_shape k.ReferenceContext plain_shapes.Reference refl refl)
-      (says_both (says_context c) (says_both (says_kind k.As refl) (says_context d))))
-      (λ i o p. calls.reference p.1 p.2.1 p.2.2.1 p.2.2.2 h)
-  says_plain (plain.ReleaseContext c) h =
-      says_by (says_both (says_plain_shape k.ReleaseContext (plain_shapes.End ends.Release) refl refl) (says_context c))
-      (λ i o p. calls.end_context p.1 p.2)
-  says_plain (plain.AcquireLock kind l) h = says_by (says_both (says_acquire kind) (says_lock kind l h)) (λ i o p. calls.lock_call p.1 p.2)
-  says_plain (plain.AcquirePushLockShared l) h =
-      says_by (says_both (says_plain_shape k.AcquirePushLockShared (plain_shapes.Lock does.AcquireShared) refl refl) (says_lock Push l h))
-      (λ i o p. calls.lock_call p.1 p.2)
-  says_plain (plain.ReleaseLock kind l) h = says_by (says_both (says_release kind) (says_lock kind l h)) (λ i o p. calls.lock_call p.1 p.2)
-  says_plain (plain.CompletePendedPreOperation d s) h =
-      says_by (says_both (says_plain_shape k.CompletePendedPreOperation plain_shapes.CompletePre refl refl)
-      (says_both (says_operation_variable d) (says_status s)))
-      (λ i o p. calls.complete_pre p.1 p.2.1 p.2.2)
-  says_plain plain.CompletePendedPostOperation h =
-      says_by (says_both (says_plain_shape k.CompletePendedPostOperation plain_shapes.CompletePost refl refl) (says_kind k.Data refl))
-      (λ i o p. calls.complete_post p.1 p.2)
+  says_plain c h =
+      let r = plain_readable c h in
+      let s = plain_shape c in
+      says_by
+      (says_both (says_plain_shape s)
+      (says_operands (plain_operands locks c) r.lock (λ y. plain_of s y ≡ c) (plain_slots s) (plain_tail s) r.named r.said))
+      (λ i o p. subst (λ d. PlainAt scope i d o) p.2.5 (calls.plain p.1 p.2.3 p.2.4))
 
   says_atom : (x : Atom) → IsAtom x → Says text (atom_word x ∷ []) (λ i o. AtomAt i x o)
   says_atom (atoms.Number n) h = says_by (says_number n h) (λ i o p. actions.number p)

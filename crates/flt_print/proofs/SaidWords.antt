@@ -1,6 +1,7 @@
 -- The words of the tables are read as what they stand for.
 use Rattle.std.proofs.Common.{◌≡◌, true, [], ◌∷◌, refl}
 use Rattle.std.specs.Prelude.{Some}
+use Rattle.flt_rules.specs.declared.call.Anchor.TheVariants.{Stream, Instance}
 use Rattle.flt_rules.specs.declared.call.Existing.{Existing}
 use Rattle.flt_rules.specs.declared.call.Existing.TheVariants.{Keep, Replace}
 use Rattle.flt_rules.specs.declared.call.LockKind.{LockKind}
@@ -12,10 +13,18 @@ use Rattle.flt_rules.specs.declared.status.FinalStatus.TheVariants as finals
 use Rattle.flt_tree.specs.Names.{Text}
 use Rattle.flt_syntax.specs.Lex.{keyword, same_kind}
 use Rattle.flt_syntax.specs.Tables.{number_variable_of, context_variable_of, removed_variable_of, operation_variable_of}
-use Rattle.flt_syntax.specs.Tables.{final_status_of, operation_of, lock_kind_of, existing_of}
+use Rattle.flt_syntax.specs.Tables.{final_status_of, operation_of, lock_kind_of, existing_of, fallible_shape_of, plain_shape_of}
 use Rattle.flt_print.specs.Vocabulary.{spelling, number_kind, context_kind, removed_kind, operation_variable_kind}
-use Rattle.flt_print.specs.Vocabulary.{final_status_kind, operation_kind, lock_kind_kind, existing_kind}
+use Rattle.flt_print.specs.Vocabulary.{final_status_kind, operation_kind, lock_kind_kind, existing_kind, fallible_kind, plain_kind}
 use Rattle.flt_syntax.specs.Words.{Meant}
+use Rattle.flt_syntax.specs.declared.shape.ContextEnd.TheVariants as ends
+use Rattle.flt_syntax.specs.declared.shape.ContextSource.TheVariants as sources
+use Rattle.flt_syntax.specs.declared.shape.FallibleShape.{FallibleShape}
+use Rattle.flt_syntax.specs.declared.shape.FallibleShape.TheVariants as fallible
+use Rattle.flt_syntax.specs.declared.shape.LockCall.TheVariants as does
+use Rattle.flt_syntax.specs.declared.shape.PlainShape.{PlainShape}
+use Rattle.flt_syntax.specs.declared.shape.PlainShape.TheVariants as plain
+use Rattle.flt_syntax.specs.declared.shape.QueueCall.TheVariants as queued
 use Rattle.flt_tree.specs.declared.variable.ContextVariable.{ContextVariable}
 use Rattle.flt_tree.specs.declared.variable.ContextVariable.TheVariants as contexts
 use Rattle.flt_tree.specs.declared.variable.NumberVariable.{NumberVariable}
@@ -149,6 +158,62 @@ existing_known : (x : Existing) → existing_of (existing_kind x) ≡ Some x
 existing_known Keep = refl
 existing_known Replace = refl
 
+fallible_reads : (x : FallibleShape) → reads_back (fallible_kind x) ≡ true
+unfolding spelling keyword same_kind
+fallible_reads (fallible.Obtain sources.Allocate) = refl
+fallible_reads (fallible.Obtain (sources.Get Stream)) = refl
+fallible_reads (fallible.Obtain (sources.Get Instance)) = refl
+fallible_reads (fallible.Set Stream) = refl
+fallible_reads (fallible.Set Instance) = refl
+fallible_reads (fallible.Delete Stream) = refl
+fallible_reads (fallible.Delete Instance) = refl
+fallible_reads (fallible.Queue queued.Insert) = refl
+fallible_reads (fallible.Queue queued.RemoveNext) = refl
+fallible_reads fallible.QueueDeferred = refl
+fallible_reads fallible.QueueGeneric = refl
+
+fallible_known : (x : FallibleShape) → fallible_shape_of (fallible_kind x) ≡ Some x
+fallible_known (fallible.Obtain sources.Allocate) = refl
+fallible_known (fallible.Obtain (sources.Get Stream)) = refl
+fallible_known (fallible.Obtain (sources.Get Instance)) = refl
+fallible_known (fallible.Set Stream) = refl
+fallible_known (fallible.Set Instance) = refl
+fallible_known (fallible.Delete Stream) = refl
+fallible_known (fallible.Delete Instance) = refl
+fallible_known (fallible.Queue queued.Insert) = refl
+fallible_known (fallible.Queue queued.RemoveNext) = refl
+fallible_known fallible.QueueDeferred = refl
+fallible_known fallible.QueueGeneric = refl
+
+plain_reads : (x : PlainShape) → reads_back (plain_kind x) ≡ true
+unfolding spelling keyword same_kind
+plain_reads (plain.End ends.Delete) = refl
+plain_reads (plain.End ends.Release) = refl
+plain_reads plain.Reference = refl
+plain_reads (plain.Lock (does.Acquire Spin)) = refl
+plain_reads (plain.Lock (does.Acquire Fast)) = refl
+plain_reads (plain.Lock (does.Acquire Push)) = refl
+plain_reads (plain.Lock does.AcquireShared) = refl
+plain_reads (plain.Lock (does.Release Spin)) = refl
+plain_reads (plain.Lock (does.Release Fast)) = refl
+plain_reads (plain.Lock (does.Release Push)) = refl
+plain_reads plain.CompletePre = refl
+plain_reads plain.CompletePost = refl
+
+plain_known : (x : PlainShape) → plain_shape_of (plain_kind x) ≡ Some x
+plain_known (plain.End ends.Delete) = refl
+plain_known (plain.End ends.Release) = refl
+plain_known plain.Reference = refl
+plain_known (plain.Lock (does.Acquire Spin)) = refl
+plain_known (plain.Lock (does.Acquire Fast)) = refl
+plain_known (plain.Lock (does.Acquire Push)) = refl
+plain_known (plain.Lock does.AcquireShared) = refl
+plain_known (plain.Lock (does.Release Spin)) = refl
+plain_known (plain.Lock (does.Release Fast)) = refl
+plain_known (plain.Lock (does.Release Push)) = refl
+plain_known plain.CompletePre = refl
+plain_known plain.CompletePost = refl
+
 module _ {text : Text} where
   -- the spelling of a number variable says it
   pub says_number_variable : (x : NumberVariable) → Says text (spelling (number_kind x) ∷ []) (λ i o. Meant number_variable_of i x o)
@@ -183,3 +248,11 @@ module _ {text : Text} where
   -- the spelling of what becomes of an existing context says it
   pub says_existing : (x : Existing) → Says text (spelling (existing_kind x) ∷ []) (λ i o. Meant existing_of i x o)
   says_existing x = says_meant existing_of (existing_kind x) x (existing_reads x) (existing_known x)
+
+  -- the word of a call that can fail says its shape
+  pub says_fallible_shape : (x : FallibleShape) → Says text (spelling (fallible_kind x) ∷ []) (λ i o. Meant fallible_shape_of i x o)
+  says_fallible_shape x = says_meant fallible_shape_of (fallible_kind x) x (fallible_reads x) (fallible_known x)
+
+  -- the word of a call that always succeeds says its shape
+  pub says_plain_shape : (x : PlainShape) → Says text (spelling (plain_kind x) ∷ []) (λ i o. Meant plain_shape_of i x o)
+  says_plain_shape x = says_meant plain_shape_of (plain_kind x) x (plain_reads x) (plain_known x)

@@ -24,6 +24,7 @@ use Rattle.flt_tree.specs.declared.filter.Head.TheVariants.{Pre, Post, Canceled,
 use Rattle.flt_tree.specs.declared.filter.Lock.{Lock}
 use Rattle.flt_tree.specs.declared.filter.Position.{Position}
 use Rattle.flt_tree.specs.declared.filter.PlainCall.{PlainCall}
+use Rattle.flt_tree.specs.declared.filter.Routine.{Routine}
 use Rattle.flt_tree.specs.declared.filter.Span.{Span}
 use Rattle.flt_tree.specs.declared.filter.Statement.{Statement, roll-Statement}
 use Rattle.flt_tree.specs.declared.filter.Statement.TheVariants.{Act, Call, Return, If, Repeat, rolls-Act, rolls-Call}
@@ -167,12 +168,12 @@ served_alike (Some at) None cs ds e a s = tt
 -- ---- routines that calls name
 
 module _ {all again : List Callback} (a : AlikeCallbacks all again) (from : Head) where
-  same_finds : (c : FallibleCall) → finds_routine all from c ≡ finds_routine again from c
+  same_finds : (c : FallibleCall Routine) → finds_routine all from c ≡ finds_routine again from c
   same_finds (QueueDeferredIoWorkItem r c) = any_alike (runs_deferred from r.name) a
   same_finds (QueueGenericWorkItem r c) = any_alike (runs_generic r.name) a
   same_finds _ = refl
 
-  call_finds : {c d : FallibleCall} → AlikeCall c d → finds_routine all from c ≡ finds_routine again from d
+  call_finds : {c d : FallibleCall Routine} → AlikeCall c d → finds_routine all from c ≡ finds_routine again from d
   call_finds (alike.same {c}) = same_finds c
   call_finds (alike.deferred {r} {s} e) = any_alike (runs_deferred from r.name) a ∙ ap (λ n. has_deferred from n again) e
   call_finds (alike.generic {r} {s} e) = any_alike (runs_generic r.name) a ∙ ap (λ n. has_generic n again) e
@@ -209,7 +210,7 @@ whole_alike all again _ _ a (one_callback {c} {d} {cs} {ds} x r) w = (
 
 -- ---- places alone are left out
 
-call_alike : {c d : FallibleCall} → AlikeCall c d → call_without c ≡ call_without d
+call_alike : {c d : FallibleCall Routine} → AlikeCall c d → call_without c ≡ call_without d
 call_alike alike.same = refl
 call_alike (alike.deferred {c = c} e) = ap (λ n. QueueDeferredIoWorkItem (record { name = n; position = nowhere }) c) e
 call_alike (alike.generic {c = c} e) = ap (λ n. QueueGenericWorkItem (record { name = n; position = nowhere }) c) e

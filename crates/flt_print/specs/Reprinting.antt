@@ -26,7 +26,7 @@ nowhere = record { line = 0; column = 0 }
 abbrev pub routine_without : Routine → Routine
 routine_without r = record { name = r.name; position = nowhere }
 
-abbrev pub call_without : FallibleCall → FallibleCall
+abbrev pub call_without : FallibleCall Routine → FallibleCall Routine
 call_without (QueueDeferredIoWorkItem r c) = QueueDeferredIoWorkItem (routine_without r) c
 call_without (QueueGenericWorkItem r c) = QueueGenericWorkItem (routine_without r) c
 call_without call = call

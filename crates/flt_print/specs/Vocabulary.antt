@@ -1,12 +1,11 @@
 -- How the words of the grammar are spelled, and which of them stand for variables, statuses and the like.
 use Rattle.std.specs.Prelude.{◌≡◌, List, [], ◌∷◌, codes, decimal, if◌then◌else◌, Option, Some, None, unwrap_or}
 use Rattle.std.specs.List.{All}
-use Rattle.flt_rules.specs.declared.call.Anchor.{Anchor}
 use Rattle.flt_rules.specs.declared.call.Anchor.TheVariants.{Stream, Instance}
 use Rattle.flt_rules.specs.declared.call.Existing.{Existing}
 use Rattle.flt_rules.specs.declared.call.Existing.TheVariants.{Keep, Replace}
 use Rattle.flt_rules.specs.declared.call.LockKind.{LockKind}
-use Rattle.flt_rules.specs.declared.call.LockKind.TheVariants.{Spin, Fast, Push}
+use Rattle.flt_rules.specs.declared.call.LockKind.TheVariants as locked
 use Rattle.flt_rules.specs.declared.place.Operation.{Operation}
 use Rattle.flt_rules.specs.declared.place.Operation.TheVariants as operating
 use Rattle.flt_rules.specs.declared.status.FinalStatus.{FinalStatus}
@@ -14,6 +13,14 @@ use Rattle.flt_rules.specs.declared.status.FinalStatus.TheVariants as finals
 use Rattle.flt_tree.specs.Names.{Text}
 use Rattle.flt_syntax.specs.Lex.{word, keyword, same_kind}
 use Rattle.flt_syntax.specs.Vocabulary.{vocabulary}
+use Rattle.flt_syntax.specs.declared.shape.ContextEnd.TheVariants as ends
+use Rattle.flt_syntax.specs.declared.shape.ContextSource.TheVariants as sources
+use Rattle.flt_syntax.specs.declared.shape.FallibleShape.{FallibleShape}
+use Rattle.flt_syntax.specs.declared.shape.FallibleShape.TheVariants as fallible
+use Rattle.flt_syntax.specs.declared.shape.LockCall.TheVariants as does
+use Rattle.flt_syntax.specs.declared.shape.PlainShape.{PlainShape}
+use Rattle.flt_syntax.specs.declared.shape.PlainShape.TheVariants as plain
+use Rattle.flt_syntax.specs.declared.shape.QueueCall.TheVariants as queued
 use Rattle.flt_syntax.specs.declared.token.Kind.{Kind}
 use Rattle.flt_syntax.specs.declared.token.Kind.TheVariants as k
 use Rattle.flt_tree.specs.declared.variable.Atom.{Atom}
@@ -114,36 +121,38 @@ operation_kind operating.Cleanup = k.Cleanup
 
 -- a kind of lock, where it is declared
 abbrev pub lock_kind_kind : LockKind → Kind
-lock_kind_kind Spin = k.Spin
-lock_kind_kind Fast = k.Fast
-lock_kind_kind Push = k.Push
+lock_kind_kind locked.Spin = k.Spin
+lock_kind_kind locked.Fast = k.Fast
+lock_kind_kind locked.Push = k.Push
 
--- the call that acquires a lock of a kind
-abbrev pub acquire_kind : LockKind → Kind
-acquire_kind Spin = k.AcquireSpinLock
-acquire_kind Fast = k.AcquireFastMutex
-acquire_kind Push = k.AcquirePushLock
+-- the word of a call that can fail, by its shape
+abbrev pub fallible_kind : FallibleShape → Kind
+fallible_kind (fallible.Obtain sources.Allocate) = k.AllocateContext
+fallible_kind (fallible.Obtain (sources.Get Stream)) = k.GetStreamContext
+fallible_kind (fallible.Obtain (sources.Get Instance)) = k.GetInstanceContext
+fallible_kind (fallible.Set Stream) = k.SetStreamContext
+fallible_kind (fallible.Set Instance) = k.SetInstanceContext
+fallible_kind (fallible.Delete Stream) = k.DeleteStreamContext
+fallible_kind (fallible.Delete Instance) = k.DeleteInstanceContext
+fallible_kind (fallible.Queue queued.Insert) = k.InsertIo
+fallible_kind (fallible.Queue queued.RemoveNext) = k.RemoveNextIo
+fallible_kind fallible.QueueDeferred = k.QueueDeferredIoWorkItem
+fallible_kind fallible.QueueGeneric = k.QueueGenericWorkItem
 
--- the call that releases it
-abbrev pub release_kind : LockKind → Kind
-release_kind Spin = k.ReleaseSpinLock
-release_kind Fast = k.ReleaseFastMutex
-release_kind Push = k.ReleasePushLock
-
--- the call that gets the context of a stream or of an instance
-abbrev pub get_kind : Anchor → Kind
-get_kind Stream = k.GetStreamContext
-get_kind Instance = k.GetInstanceContext
-
--- the call that sets it
-abbrev pub set_kind : Anchor → Kind
-set_kind Stream = k.SetStreamContext
-set_kind Instance = k.SetInstanceContext
-
--- the call that deletes it
-abbrev pub delete_kind : Anchor → Kind
-delete_kind Stream = k.DeleteStreamContext
-delete_kind Instance = k.DeleteInstanceContext
+-- the word of a call that always succeeds, by its shape
+abbrev pub plain_kind : PlainShape → Kind
+plain_kind (plain.End ends.Delete) = k.DeleteContext
+plain_kind plain.Reference = k.ReferenceContext
+plain_kind (plain.End ends.Release) = k.ReleaseContext
+plain_kind (plain.Lock (does.Acquire locked.Spin)) = k.AcquireSpinLock
+plain_kind (plain.Lock (does.Release locked.Spin)) = k.ReleaseSpinLock
+plain_kind (plain.Lock (does.Acquire locked.Fast)) = k.AcquireFastMutex
+plain_kind (plain.Lock (does.Release locked.Fast)) = k.ReleaseFastMutex
+plain_kind (plain.Lock (does.Acquire locked.Push)) = k.AcquirePushLock
+plain_kind (plain.Lock does.AcquireShared) = k.AcquirePushLockShared
+plain_kind (plain.Lock (does.Release locked.Push)) = k.ReleasePushLock
+plain_kind plain.CompletePre = k.CompletePendedPreOperation
+plain_kind plain.CompletePost = k.CompletePendedPostOperation
 
 -- what a set does where a context is there already
 abbrev pub existing_kind : Existing → Kind

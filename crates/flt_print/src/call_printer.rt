@@ -1,18 +1,18 @@
-//! Writes statuses and calls.
+//! Writes statuses, and calls by the slots of their shapes.
 
 ghost use Rattle.flt_print.specs.CallWords as spec;
-ghost use Rattle.flt_tree.specs.Declarations as declared;
 ghost use Rattle.flt_print.specs.Line.{begun, spaced};
-ghost use Rattle.std.specs.Prelude.{◌≡◌, ◌++◌, OnOk};
+ghost use Rattle.flt_print.specs.Operands.{operands_of};
+ghost use Rattle.std.specs.Prelude.{◌≡◌, ◌∷◌, ◌++◌, map, OnOk};
 
 use crate::line::{begin, name, word};
+use crate::operands::{Operands, fallible_operands, fallible_shape, plain_operands, plain_shape};
 use crate::vocabulary::{
-    acquire_kind, context_kind, delete_kind, existing_kind, final_status_kind, get_kind,
-    operation_variable_kind, release_kind, removed_kind, set_kind,
+    context_kind, existing_kind, fallible_kind, final_status_kind, operation_variable_kind,
+    plain_kind, removed_kind,
 };
-use flt_rules::LockNumber;
-use flt_syntax::Kind;
-use flt_tree::{ContextVariable, FallibleCall, Lock, PlainCall, Status};
+use flt_syntax::{Kind, Slot, Tail};
+use flt_tree::{ContextVariable, FallibleCall, Lock, PlainCall, Routine, Status};
 use std::alloc::AllocError;
 
 /// Nothing, or a word and the context after it.
@@ -65,62 +65,66 @@ pub fn optional_status(out: &mut Vec<u8>, found: Option<Status>) -> Result<(), A
     }
 }
 
-/// A call that can fail, after other words.
-pub fn fallible_call(out: &mut Vec<u8>, call: &FallibleCall) -> Result<(), AllocError>
-    ensures { OnOk result (out.new.items ≡ out.old.items ++ spaced (spec.fallible_words call.now)) }
+fn slot(out: &mut Vec<u8>, slot: Slot, operands: &Operands<'_>) -> Result<(), AllocError>
+    ensures { OnOk result (out.new.items ≡ out.old.items ++ 32 ∷ spec.slot_word (operands_of operands.now) slot) }
 {
-    match call {
-        FallibleCall::AllocateContext(c) => {
-            word(out, Kind::AllocateContext)?;
-            word(out, context_kind(*c))
-        }
-        FallibleCall::GetContext(anchor, c) => {
-            word(out, get_kind(*anchor))?;
-            word(out, context_kind(*c))
-        }
-        FallibleCall::SetContext(anchor, existing, c, old) => {
-            word(out, set_kind(*anchor))?;
-            word(out, existing_kind(*existing))?;
-            word(out, context_kind(*c))?;
-            optional(out, Kind::Old, *old)
-        }
-        FallibleCall::DeleteContextOf(anchor, old) => {
-            word(out, delete_kind(*anchor))?;
-            optional(out, Kind::Old, *old)
-        }
-        FallibleCall::InsertIo(context) => {
-            word(out, Kind::InsertIo)?;
-            word(out, Kind::Data)?;
-            optional(out, Kind::Context, *context)
-        }
-        FallibleCall::RemoveNextIo(o, c) => {
-            word(out, Kind::RemoveNextIo)?;
-            word(out, removed_kind(*o))?;
-            word(out, Kind::Context)?;
-            word(out, context_kind(*c))
-        }
-        FallibleCall::QueueDeferredIoWorkItem(routine, context) => {
-            word(out, Kind::QueueDeferredIoWorkItem)?;
-            word(out, Kind::Data)?;
-            name(out, routine.name.as_slice())?;
-            optional(out, Kind::Context, *context)
-        }
-        FallibleCall::QueueGenericWorkItem(routine, context) => {
-            word(out, Kind::QueueGenericWorkItem)?;
-            name(out, routine.name.as_slice())?;
-            optional(out, Kind::Context, *context)
-        }
+    match slot {
+        Slot::Data => word(out, Kind::Data),
+        Slot::As => word(out, Kind::As),
+        Slot::With => word(out, Kind::Context),
+        Slot::Operation => word(out, operation_variable_kind(operands.operation)),
+        Slot::Removed => word(out, removed_kind(operands.removed)),
+        Slot::Existing => word(out, existing_kind(operands.existing)),
+        Slot::Context => word(out, context_kind(operands.context)),
+        Slot::Other => word(out, context_kind(operands.other)),
+        Slot::Routine | Slot::Lock(_) => name(out, operands.name),
     }
 }
 
-/// The name of the lock of a number, if it is there.
-fn lock_name(locks: &[Lock], number: LockNumber) -> &[u8]
-    ensures { result.now ≡ declared.lock_name locks.now number }
+fn slots(out: &mut Vec<u8>, mut slots: &[Slot], operands: &Operands<'_>) -> Result<(), AllocError>
+    ensures { OnOk result (out.new.items ≡ out.old.items
+        ++ spaced (map (spec.slot_word (operands_of operands.now)) slots.entry.now)) }
 {
-    match locks.get(usize::from(number.place())) {
-        None => b"",
-        Some(lock) => lock.name.as_slice(),
+    while let [next, rest @ ..] = slots {
+        slot(out, *next, operands)?;
+        slots = rest;
     }
+    Ok(())
+}
+
+/// The end of a call.
+fn tail(out: &mut Vec<u8>, tail: Tail, operands: &Operands<'_>) -> Result<(), AllocError>
+    ensures { OnOk result (out.new.items ≡ out.old.items ++ spaced (spec.tail_words (operands_of operands.now) tail)) }
+{
+    match tail {
+        Tail::Nothing => Ok(()),
+        Tail::With => optional(out, Kind::Context, operands.optional),
+        Tail::Old | Tail::OtherOld => optional(out, Kind::Old, operands.optional),
+        Tail::Status => status(out, operands.status),
+    }
+}
+
+/// The slots of a call, and its end.
+fn operands(
+    out: &mut Vec<u8>,
+    behind: &[Slot],
+    end: Tail,
+    operands: &Operands<'_>,
+) -> Result<(), AllocError>
+    ensures { OnOk result (out.new.items ≡ out.old.items
+        ++ spaced (spec.operand_words (operands_of operands.now) behind.now end)) }
+{
+    slots(out, behind, operands)?;
+    tail(out, end, operands)
+}
+
+/// A call that can fail, after other words.
+pub fn fallible_call(out: &mut Vec<u8>, call: &FallibleCall<Routine>) -> Result<(), AllocError>
+    ensures { OnOk result (out.new.items ≡ out.old.items ++ spaced (spec.fallible_words call.now)) }
+{
+    let shape = fallible_shape(call);
+    word(out, fallible_kind(shape))?;
+    operands(out, shape.slots(), shape.tail(), &fallible_operands(call))
 }
 
 /// A line with a call that always succeeds, up to its end.
@@ -132,41 +136,12 @@ pub fn plain_call(
 ) -> Result<(), AllocError>
     ensures { OnOk result (out.new.items ≡ out.old.items ++ begun level (spec.plain_words locks.now call)) }
 {
-    match call {
-        PlainCall::DeleteContext(c) => {
-            begin(out, level, Kind::DeleteContext)?;
-            word(out, context_kind(c))
-        }
-        PlainCall::ReferenceContext(c, d) => {
-            begin(out, level, Kind::ReferenceContext)?;
-            word(out, context_kind(c))?;
-            word(out, Kind::As)?;
-            word(out, context_kind(d))
-        }
-        PlainCall::ReleaseContext(c) => {
-            begin(out, level, Kind::ReleaseContext)?;
-            word(out, context_kind(c))
-        }
-        PlainCall::AcquireLock(kind, number) => {
-            begin(out, level, acquire_kind(kind))?;
-            name(out, lock_name(locks, number))
-        }
-        PlainCall::AcquirePushLockShared(number) => {
-            begin(out, level, Kind::AcquirePushLockShared)?;
-            name(out, lock_name(locks, number))
-        }
-        PlainCall::ReleaseLock(kind, number) => {
-            begin(out, level, release_kind(kind))?;
-            name(out, lock_name(locks, number))
-        }
-        PlainCall::CompletePendedPreOperation(d, found) => {
-            begin(out, level, Kind::CompletePendedPreOperation)?;
-            word(out, operation_variable_kind(d))?;
-            status(out, found)
-        }
-        PlainCall::CompletePendedPostOperation => {
-            begin(out, level, Kind::CompletePendedPostOperation)?;
-            word(out, Kind::Data)
-        }
-    }
+    let shape = plain_shape(call);
+    begin(out, level, plain_kind(shape))?;
+    operands(
+        out,
+        shape.slots(),
+        shape.tail(),
+        &plain_operands(locks, call),
+    )
 }

@@ -4,6 +4,7 @@
 mod action_printer;
 mod call_printer;
 mod line;
+mod operands;
 mod printer;
 mod vocabulary;
 

@@ -6,6 +6,7 @@ ghost use Rattle.std.specs.Prelude.{◌≡◌, ◌<◌, ◌+◌, [], ◌∷◌, 
 
 use crate::vocabulary;
 use flt_syntax::Kind;
+use itoa::Buffer;
 use std::alloc::AllocError;
 
 /// The beginning of a line at a level, with its first word.
@@ -33,24 +34,12 @@ pub fn name(out: &mut Vec<u8>, name: &[u8]) -> Result<(), AllocError>
     out.extend_from_slice(name)
 }
 
-fn digit(out: &mut Vec<u8>, digit: u8) -> Result<(), AllocError>
-    requires { digit < 10 }
-    ensures { OnOk result (out.new.items ≡ out.old.items ++ (48 + digit) ∷ []) }
-{
-    out.push(b'0' + digit)?;
-    Ok(())
-}
-
 /// The digits of a number.
-#[tactic(auto, using(std::proofs::lemmas::Fmt::decimal_digit))]
 fn digits(out: &mut Vec<u8>, n: u64) -> Result<(), AllocError>
     ensures { OnOk result (out.new.items ≡ out.old.items ++ decimal n) }
 {
-    if n < 10 {
-        return digit(out, n as u8);
-    }
-    digits(out, n / 10)?;
-    digit(out, (n % 10) as u8)
+    let mut buffer = Buffer::new();
+    out.extend_from_slice(buffer.format(n).as_bytes())
 }
 
 /// A number after other words.

@@ -4,7 +4,10 @@ ghost use Rattle.flt_print.specs.Vocabulary as spec;
 ghost use Rattle.std.specs.Prelude.{◌≡◌, map, option_map};
 
 use flt_rules::{Anchor, Existing, FinalStatus, LockKind, Operation};
-use flt_syntax::{Kind, keywords, same_kind};
+use flt_syntax::{
+    ContextEnd, ContextSource, FallibleShape, Kind, LockCall, PlainShape, QueueCall, keywords,
+    same_kind,
+};
 use flt_tree::{ContextVariable, NumberVariable, OperationVariable, RemovedVariable};
 
 fn word_for(kind: Kind, mut table: &[(&'static [u8], Kind)]) -> &'static [u8]
@@ -137,55 +140,42 @@ pub fn lock_kind_kind(kind: LockKind) -> Kind
     }
 }
 
-/// The call that acquires a lock of the kind.
-pub fn acquire_kind(kind: LockKind) -> Kind
-    ensures { result ≡ spec.acquire_kind kind }
+/// The word of a call that can fail, by its shape.
+pub fn fallible_kind(shape: FallibleShape) -> Kind
+    ensures { result ≡ spec.fallible_kind shape }
 {
-    match kind {
-        LockKind::Spin => Kind::AcquireSpinLock,
-        LockKind::Fast => Kind::AcquireFastMutex,
-        LockKind::Push => Kind::AcquirePushLock,
+    match shape {
+        FallibleShape::Obtain(ContextSource::Allocate) => Kind::AllocateContext,
+        FallibleShape::Obtain(ContextSource::Get(Anchor::Stream)) => Kind::GetStreamContext,
+        FallibleShape::Obtain(ContextSource::Get(Anchor::Instance)) => Kind::GetInstanceContext,
+        FallibleShape::Set(Anchor::Stream) => Kind::SetStreamContext,
+        FallibleShape::Set(Anchor::Instance) => Kind::SetInstanceContext,
+        FallibleShape::Delete(Anchor::Stream) => Kind::DeleteStreamContext,
+        FallibleShape::Delete(Anchor::Instance) => Kind::DeleteInstanceContext,
+        FallibleShape::Queue(QueueCall::Insert) => Kind::InsertIo,
+        FallibleShape::Queue(QueueCall::RemoveNext) => Kind::RemoveNextIo,
+        FallibleShape::QueueDeferred => Kind::QueueDeferredIoWorkItem,
+        FallibleShape::QueueGeneric => Kind::QueueGenericWorkItem,
     }
 }
 
-/// The call that releases a lock of the kind.
-pub fn release_kind(kind: LockKind) -> Kind
-    ensures { result ≡ spec.release_kind kind }
+/// The word of a call that always succeeds, by its shape.
+pub fn plain_kind(shape: PlainShape) -> Kind
+    ensures { result ≡ spec.plain_kind shape }
 {
-    match kind {
-        LockKind::Spin => Kind::ReleaseSpinLock,
-        LockKind::Fast => Kind::ReleaseFastMutex,
-        LockKind::Push => Kind::ReleasePushLock,
-    }
-}
-
-/// The call that gets the context of a stream or of an instance.
-pub fn get_kind(anchor: Anchor) -> Kind
-    ensures { result ≡ spec.get_kind anchor }
-{
-    match anchor {
-        Anchor::Stream => Kind::GetStreamContext,
-        Anchor::Instance => Kind::GetInstanceContext,
-    }
-}
-
-/// The call that sets the context of a stream or of an instance.
-pub fn set_kind(anchor: Anchor) -> Kind
-    ensures { result ≡ spec.set_kind anchor }
-{
-    match anchor {
-        Anchor::Stream => Kind::SetStreamContext,
-        Anchor::Instance => Kind::SetInstanceContext,
-    }
-}
-
-/// The call that deletes the context of a stream or of an instance.
-pub fn delete_kind(anchor: Anchor) -> Kind
-    ensures { result ≡ spec.delete_kind anchor }
-{
-    match anchor {
-        Anchor::Stream => Kind::DeleteStreamContext,
-        Anchor::Instance => Kind::DeleteInstanceContext,
+    match shape {
+        PlainShape::End(ContextEnd::Delete) => Kind::DeleteContext,
+        PlainShape::Reference => Kind::ReferenceContext,
+        PlainShape::End(ContextEnd::Release) => Kind::ReleaseContext,
+        PlainShape::Lock(LockCall::Acquire(LockKind::Spin)) => Kind::AcquireSpinLock,
+        PlainShape::Lock(LockCall::Release(LockKind::Spin)) => Kind::ReleaseSpinLock,
+        PlainShape::Lock(LockCall::Acquire(LockKind::Fast)) => Kind::AcquireFastMutex,
+        PlainShape::Lock(LockCall::Release(LockKind::Fast)) => Kind::ReleaseFastMutex,
+        PlainShape::Lock(LockCall::Acquire(LockKind::Push)) => Kind::AcquirePushLock,
+        PlainShape::Lock(LockCall::AcquireShared) => Kind::AcquirePushLockShared,
+        PlainShape::Lock(LockCall::Release(LockKind::Push)) => Kind::ReleasePushLock,
+        PlainShape::CompletePre => Kind::CompletePendedPreOperation,
+        PlainShape::CompletePost => Kind::CompletePendedPostOperation,
     }
 }
 

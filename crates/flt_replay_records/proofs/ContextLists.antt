@@ -1,11 +1,12 @@
 -- Contexts are read and changed where their parts stand.
-use Rattle.std.proofs.Common.{◌≡◌, ◌≢◌, ◌||◌, ⊎_elim, ◌≤◌, ◌<◌, ◌+◌, ◌-◌, ℕ, zero, suc, Bool, false, List, [], ◌∷◌}
+use Rattle.std.proofs.Common.{◌≡◌, ◌≢◌, ◌||◌, ⊎_elim, ◌≤◌, ◌<◌, ◌-◌, ℕ, zero, suc, Bool, List, [], ◌∷◌}
 use Rattle.std.proofs.Common.{◌++◌, Option, None, replicate, take, length, get_or, set, refl, sym, ap, ◌∙◌, arith}
 use Rattle.std.specs.List.{list_any}
 use Rattle.std.proofs.lemmas.Bool.{cases_eq, cases_lt}
 use Rattle.std.proofs.lemmas.List.{get_or-set_other, get_or-set_same, get_or_past, length-set, same_lists, set-set, set_past}
 use Rattle.flt_model.specs.Moves.{is_linked_by}
-use Rattle.flt_model.specs.World.{Context, Link, no_context}
+use Rattle.flt_model.specs.declared.parts.Link.{Link}
+use Rattle.flt_model.specs.World.{Context, no_context}
 use Rattle.flt_replay_records.specs.ContextLists.{no_one, context_from, contexts_of}
 use Rattle.flt_replay_records.specs.declared.context_list.Allocation.{Allocation}
 use Rattle.flt_replay_records.proofs.NumberMaps.{filled}

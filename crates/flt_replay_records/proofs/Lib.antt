@@ -1,8 +1,6 @@
 pub mod ContextLists
 pub mod Counting
-pub mod FirstPlaces
 pub mod Keys
-pub mod LastFrames
 pub mod LocalLaws
 pub mod NumberMaps
 pub mod PlaceSets

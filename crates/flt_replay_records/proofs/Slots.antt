@@ -1,5 +1,5 @@
 -- The slots of a lock's holders: what is left where one comes or is emptied, and who stands in the way.
-use Rattle.std.proofs.Common.{◌≡◌, ◌≢◌, ℕ, cond, is_some, zero, suc, ◌+◌, ◌<◌, Bool, true, false, not, ◌&&◌}
+use Rattle.std.proofs.Common.{◌≡◌, ◌≢◌, ℕ, cond, is_some, zero, suc, ◌+◌, Bool, true, false, not, ◌&&◌}
 use Rattle.std.proofs.Common.{◌||◌, ◌==◌, if◌then◌else◌, List, [], ◌∷◌, ◌++◌, Option, Some, None, filter, length}
 use Rattle.std.proofs.Common.{take, ◌-◌, IsTrue, get_or, set, refl, sym, ap, subst, ⊎_elim, ◌∙◌, arith}
 use Rattle.std.proofs.lemmas.Bool.{cases_eq, cond-true, cond-false}
@@ -13,10 +13,10 @@ use Rattle.flt_rules.specs.Held.{same_access, are_compatible}
 use Rattle.flt_rules.specs.declared.held.Access.{Access}
 use Rattle.flt_rules.specs.declared.held.Access.TheVariants.{Exclusive, Shared}
 use Rattle.flt_model.specs.Locks.{may_join, is_free_for}
-use Rattle.flt_model.specs.World.{Holder}
+use Rattle.flt_model.specs.declared.parts.Holder.{Holder}
 use Rattle.flt_replay_records.proofs.Keys.{at_self, at_other}
 use Rattle.flt_replay_records.specs.Slots.{left, is_own, is_owned, is_slot_of, may_join_slot}
-use Rattle.flt_replay_records.specs.Slots.{how_many, no_other, IsOnly, ArePlaces, AreSlots}
+use Rattle.flt_replay_records.specs.Slots.{how_many, no_other, IsOnly, ArePlaces}
 
 -- ---- what is left
 

@@ -1,6 +1,6 @@
 -- One block or one `repeat` more is gone on with behind two blocks.
-use Rattle.std.proofs.Common.{◌≡◌, ◌<◌, ◌+◌, ◌-◌, ℕ, zero, suc, Bool, true, false, List, [], ◌∷◌, ◌++◌, Option}
-use Rattle.std.proofs.Common.{Some, None, length, get_or, set, take, reverse, refl, sym, ap, ◌∙◌, arith}
+use Rattle.std.proofs.Common.{◌≡◌, ◌<◌, ◌+◌, ◌-◌, ℕ, zero, suc, true, false, List, [], ◌∷◌, ◌++◌, Option}
+use Rattle.std.proofs.Common.{Some, None, length, get_or, set, take, reverse, refl, ap, ◌∙◌, arith}
 use Rattle.std.specs.List.{slice_get}
 use Rattle.std.specs.Option.{MatchOption}
 use Rattle.std.proofs.lemmas.Option.{get_or_from_slice_get}
@@ -54,7 +54,8 @@ module _ (p : Part) (ps : List Part) where
   back = reverse-append (p ∷ []) ps
 
 -- a block that isn't empty is the last part
-pub block_last : (old blocks : List (Bor (List Statement))) (b : Bor (List Statement)) (repeats : List OpenRepeat) → old ≡ blocks ++ b ∷ [] →
+pub block_last : (old blocks : List (Bor (List Statement))) (b : Bor (List Statement)) (repeats : List OpenRepeat) →
+    old ≡ blocks ++ b ∷ [] →
     0 < length b.now → parts_of old repeats ≡ parts_of blocks repeats ++ Block b ∷ []
 block_last old blocks b repeats e h =
     ap (λ (bs : List (Bor (List Statement))). reverse (parts_from bs (reverse repeats))) (ap reverse e ∙ round b blocks)
@@ -62,7 +63,8 @@ block_last old blocks b repeats e h =
     ∙ back (Block b) (parts_from (reverse blocks) (reverse repeats))
 
 -- where a block is empty though no `repeat` is left
-pub block_alone : (old blocks : List (Bor (List Statement))) (b : Bor (List Statement)) (repeats : List OpenRepeat) → old ≡ blocks ++ b ∷ [] →
+pub block_alone : (old blocks : List (Bor (List Statement))) (b : Bor (List Statement)) (repeats : List OpenRepeat) →
+    old ≡ blocks ++ b ∷ [] →
     repeats ≡ [] → parts_of old repeats ≡ parts_of blocks repeats ++ Block b ∷ []
 block_alone old blocks b repeats e none =
     rw none
@@ -101,7 +103,8 @@ last_set (x ∷ []) zero y h = refl
 last_set (x ∷ z ∷ xs) zero y h = absurd (omega (arith, h))
 last_set {X} (x ∷ xs) (suc i) y h = ap (λ (l : List X). x ∷ l) (last_set xs i y (omega (arith, h)))
 
-pub turned_last : (old blocks : List (Bor (List Statement))) (b : Bor (List Statement)) (were are : List OpenRepeat) (body : List Statement) →
+pub turned_last : (old blocks : List (Bor (List Statement))) (b : Bor (List Statement))
+    (were are : List OpenRepeat) (body : List Statement) →
     old ≡ blocks ++ b ∷ [] → length b.now < 1 → TurnsBegun were body are → TurnsLast (parts_of old were) body (parts_of old are)
 unfolding TurnsBegun TurnsLast
 turned_last old blocks b [] are body e h t = absurd (omega (arith, t.0))
@@ -128,7 +131,8 @@ last_is {X} (y ∷ ys) x e =
     before_last xs i y (omega arith) ∙ ap (λ (z : X). take i xs ++ z ∷ []) (get_or_from_slice_get xs i x y e)
 
 -- what comes of a turn of the last `repeat`, where the last block is its place
-pub turned_if : (old : List (Bor (List Statement))) (b : Bor (List Statement)) (were are : List OpenRepeat) (r : Option (Bor (List Statement))) →
+pub turned_if : (old : List (Bor (List Statement))) (b : Bor (List Statement))
+    (were are : List OpenRepeat) (r : Option (Bor (List Statement))) →
     slice_get old (length old - 1) ≡ Some b → length b.now < 1 →
     MatchOption r (are ≡ were) (λ body. TurnsBegun were body.now are) →
     MatchOption r (parts_of old are ≡ parts_of old were) (λ body. TurnsLast (parts_of old were) body.now (parts_of old are))

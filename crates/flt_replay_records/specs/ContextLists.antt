@@ -1,6 +1,7 @@
 -- What lists that stand apart say of contexts.
 use Rattle.std.specs.Prelude.{ℕ, List, [], ◌∷◌, Option, None}
-use Rattle.flt_model.specs.World.{Context, Link}
+use Rattle.flt_model.specs.declared.parts.Link.{Link}
+use Rattle.flt_model.specs.World.{Context}
 use Rattle.flt_replay_records.specs.declared.context_list.Allocation.{Allocation}
 
 -- nobody allocated it

@@ -6,7 +6,6 @@ pub mod Counts
 pub mod Kept
 pub mod Links
 pub mod Local
-pub mod Parts
 pub mod Places
 pub mod Rest
 pub mod Slots

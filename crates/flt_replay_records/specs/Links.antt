@@ -3,7 +3,8 @@ use Rattle.std.specs.Prelude.{◌≡◌, ℕ, ◌+◌, List, get_or}
 use Rattle.std.specs.BTreeSet.{BTreeSet}
 use Rattle.flt_model.specs.declared.moves.Key.{Key}
 use Rattle.flt_model.specs.declared.moves.Key.TheVariants.{Stream, Instance}
-use Rattle.flt_model.specs.World.{Context, Link, is_linked_to, no_context}
+use Rattle.flt_model.specs.declared.parts.Link.{Link}
+use Rattle.flt_model.specs.World.{Context, is_linked_to, no_context}
 use Rattle.flt_replay_records.specs.Places.{has}
 
 -- keys as numbers

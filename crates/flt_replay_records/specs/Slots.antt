@@ -9,7 +9,7 @@ use Rattle.flt_rules.specs.Held.{same_access}
 use Rattle.flt_rules.specs.declared.held.Access.{Access}
 use Rattle.flt_rules.specs.declared.held.Access.TheVariants.{Exclusive, Shared}
 use Rattle.flt_model.specs.Locks.{may_join}
-use Rattle.flt_model.specs.World.{Holder}
+use Rattle.flt_model.specs.declared.parts.Holder.{Holder}
 
 -- the holders that are left
 abbrev pub left : List (Option Holder) → List Holder

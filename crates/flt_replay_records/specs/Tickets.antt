@@ -3,7 +3,7 @@ use Rattle.std.specs.Prelude.{◌≡◌, ℕ, ◌<◌, ◌≤◌, Bool, true, fa
 use Rattle.std.specs.Prelude.{List, [], ◌∷◌, ◌++◌, Option, Some, None, is_some, nat_eq, take, length, get_or}
 use Rattle.std.specs.List.{list_any, before_first, after_first}
 use Rattle.flt_model.specs.Violations.{in_queue}
-use Rattle.flt_model.specs.World.{Entry}
+use Rattle.flt_model.specs.declared.parts.Entry.{Entry}
 use Rattle.flt_replay_records.specs.Counts.{count}
 
 -- the entries that are left

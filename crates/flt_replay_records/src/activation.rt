@@ -13,10 +13,9 @@ ghost use Rattle.flt_rules.specs.Held as held;
 use crate::going::Going;
 use crate::kept::Few;
 use crate::rest::Upcoming;
+use flt_model::Variables;
 use flt_rules::{HeldLock, LockNumber};
-use flt_tree::{
-    Atom, ContextVariable, NumberVariable, OperationVariable, RemovedVariable, Statement,
-};
+use flt_tree::{ContextVariable, NumberVariable, OperationVariable, RemovedVariable, Statement};
 use std::alloc::{AllocError, Global};
 use std::marker::Model;
 
@@ -103,6 +102,37 @@ fn go_again<'a>(state: &mut State<'a>, alloc: Global) -> Result<(), AllocError>
     Ok(())
 }
 
+impl<'a> Variables for Activation<'a> {
+    ghost activation = { λ act. act };
+
+    fn number(&self, variable: NumberVariable) -> u64
+        ensures { result ≡ spec.number_in self.now variable }
+    {
+        match &self.state {
+            State::Going(going) => going.number(variable),
+            State::Ended(_) => 0,
+        }
+    }
+
+    fn context(&self, variable: ContextVariable) -> Option<usize>
+        ensures { result ≡ spec.context_in self.now variable }
+    {
+        match &self.state {
+            State::Going(going) => going.context(variable),
+            State::Ended(few) => few.context(variable.place()),
+        }
+    }
+
+    fn operation(&self, variable: OperationVariable) -> Option<usize>
+        ensures { result ≡ spec.operation_in self.now variable }
+    {
+        match &self.state {
+            State::Going(going) => going.operation(variable),
+            State::Ended(few) => few.operation(variable.place()),
+        }
+    }
+}
+
 impl<'a> Activation<'a> {
     /// An activation at its entry: all is 0 or NULL except the given operation and the given context. It fails if a number is 2^32 - 1 or
     /// greater.
@@ -120,46 +150,6 @@ impl<'a> Activation<'a> {
             alloc,
             state: State::Going(spare.place(alloc, going)?),
         })
-    }
-
-    /// The value of a number variable.
-    fn number(&self, variable: NumberVariable) -> u64
-        ensures { result ≡ spec.number_in self.now variable }
-    {
-        match &self.state {
-            State::Going(going) => going.number(variable),
-            State::Ended(_) => 0,
-        }
-    }
-
-    /// The number of the context that a variable names, or none if it is NULL.
-    pub fn context(&self, variable: ContextVariable) -> Option<usize>
-        ensures { result ≡ spec.context_in self.now variable }
-    {
-        match &self.state {
-            State::Going(going) => going.context(variable),
-            State::Ended(few) => few.context(variable.place()),
-        }
-    }
-
-    /// The number of the visit that a variable names, or none if it is NULL.
-    pub fn operation(&self, variable: OperationVariable) -> Option<usize>
-        ensures { result ≡ spec.operation_in self.now variable }
-    {
-        match &self.state {
-            State::Going(going) => going.operation(variable),
-            State::Ended(few) => few.operation(variable.place()),
-        }
-    }
-
-    /// The value of a number or of a variable.
-    pub fn atom(&self, atom: Atom) -> u64
-        ensures { result ≡ spec.atom_value self.now atom }
-    {
-        match atom {
-            Atom::Number(number) => number,
-            Atom::Variable(variable) => self.number(variable),
-        }
     }
 
     /// The locks that the activation holds.

@@ -7,7 +7,8 @@ ghost use Rattle.flt_model.specs.Moves as moves;
 ghost use Rattle.flt_model.specs.World as spec;
 ghost use Rattle.flt_replay_records.specs.ContextLists.{no_one};
 
-use crate::parts::{Link, in_four_bytes};
+use crate::parts::in_four_bytes;
+use flt_model::Link;
 use std::alloc::{AllocError, Global};
 use std::marker::Model;
 

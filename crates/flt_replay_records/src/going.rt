@@ -10,10 +10,10 @@ ghost use Rattle.flt_replay_records.specs.Writes.{written};
 use crate::activation::Write;
 use crate::kept::{ActivationRest, Few};
 use crate::rest::{Rest, Upcoming};
+use flt_model::Variables;
 use flt_rules::{HeldLock, LockNumber};
 use flt_tree::{
-    Atom, ContextVariable, Expression, NumberVariable, OperationVariable, RemovedVariable, Span,
-    Statement,
+    ContextVariable, NumberVariable, OperationVariable, RemovedVariable, Span, Statement,
 };
 use std::alloc::{AllocError, Global};
 use std::marker::Model;
@@ -81,28 +81,6 @@ impl<'a> Going<'a> {
         self.kept.few()
     }
 
-    /// The value of a number variable.
-    #[inline(always)]
-    pub(crate) fn number(&self, variable: NumberVariable) -> u64
-        ensures { result ≡ spec.number_in self.now variable }
-    {
-        self.kept.number(variable.place())
-    }
-
-    /// The number of the context that a variable names, or none if it is NULL.
-    pub(crate) fn context(&self, variable: ContextVariable) -> Option<usize>
-        ensures { result ≡ spec.context_in self.now variable }
-    {
-        self.kept.context(variable.place())
-    }
-
-    /// The number of the visit that a variable names, or none if it is NULL.
-    pub(crate) fn operation(&self, variable: OperationVariable) -> Option<usize>
-        ensures { result ≡ spec.operation_in self.now variable }
-    {
-        self.kept.operation(variable.place())
-    }
-
     /// Sets a number variable.
     #[inline(always)]
     pub(crate) fn set_number(
@@ -151,29 +129,6 @@ impl<'a> Going<'a> {
         }
     }
 
-    /// The value of a number or of a variable.
-    #[inline(always)]
-    pub(crate) fn atom(&self, atom: Atom) -> u64
-        ensures { result ≡ spec.atom_value self.now atom }
-    {
-        match atom {
-            Atom::Number(number) => number,
-            Atom::Variable(variable) => self.number(variable),
-        }
-    }
-
-    /// The value of a number, a sum or a difference; these wrap.
-    #[inline(always)]
-    pub(crate) fn expression(&self, expression: Expression) -> u64
-        ensures { result ≡ spec.expression_value self.now expression }
-    {
-        match expression {
-            Expression::Atom(atom) => self.atom(atom),
-            Expression::Sum(left, right) => self.atom(left).wrapping_add(self.atom(right)),
-            Expression::Difference(left, right) => self.atom(left).wrapping_sub(self.atom(right)),
-        }
-    }
-
     fn write(&mut self, write: Write) -> Result<(), AllocError>
         ensures { OnOk result (self.new ≡ written write self.old) }
     {
@@ -197,6 +152,29 @@ impl<'a> Going<'a> {
     {
         self.rest.replace_first(&mut self.kept, block)?;
         self.write(write)
+    }
+}
+
+impl<'a> Variables for Going<'a> {
+    ghost activation = { λ act. act };
+
+    #[inline(always)]
+    fn number(&self, variable: NumberVariable) -> u64
+        ensures { result ≡ spec.number_in self.now variable }
+    {
+        self.kept.number(variable.place())
+    }
+
+    fn context(&self, variable: ContextVariable) -> Option<usize>
+        ensures { result ≡ spec.context_in self.now variable }
+    {
+        self.kept.context(variable.place())
+    }
+
+    fn operation(&self, variable: OperationVariable) -> Option<usize>
+        ensures { result ≡ spec.operation_in self.now variable }
+    {
+        self.kept.operation(variable.place())
     }
 }
 

@@ -3,12 +3,12 @@
 ghost use Rattle.std.specs.Prelude.{◌≡◌, ◌++◌, ◌∷◌, ◌==◌, ℕ, List, [], Option, false, true, not, filter, IfOk, OnOk, OnErr};
 ghost use Rattle.std.specs.List.{list_all};
 ghost use Rattle.flt_model.specs.Locks as spec;
-ghost use Rattle.flt_model.specs.World as machine;
+ghost use Rattle.flt_model.specs.declared.parts.Holder.{Holder};
 ghost use Rattle.flt_replay_records.specs.Slots.{left, is_own, is_slot_of, may_join_slot, no_other, ArePlaces};
 ghost use Rattle.flt_rules.specs.Held.{same_access};
 ghost use Rattle.flt_rules.specs.declared.held.Access.{Access};
 
-use crate::parts::Holder;
+use flt_model::Holder;
 use flt_rules::Access;
 use std::alloc::{AllocError, Global};
 use std::collections::BTreeMap;
@@ -29,9 +29,9 @@ pub struct Holders {
 
 impl Model for Holders {
     ghost use Rattle.std.specs.Prelude.{◌≡◌, List, false};
-    ghost use Rattle.flt_model.specs.World as machine;
+    ghost use Rattle.flt_model.specs.declared.parts.Holder.{Holder};
 
-    ghost Value = { List machine.Holder };
+    ghost Value = { List Holder };
 
     ghost use Rattle.flt_replay_records.specs.Slots.{left, AreSlots};
 
@@ -68,7 +68,7 @@ impl Holders {
 
     /// Removes an activation from the holders.
     pub fn remove(&mut self, activation: usize)
-        ensures { self.new ≡ filter (λ (h : machine.Holder). not (h.activation == activation)) self.old }
+        ensures { self.new ≡ filter (λ (h : Holder). not (h.activation == activation)) self.old }
     {
         if self.is_walked {
             drop_all(&mut self.slots, activation);
@@ -126,14 +126,14 @@ fn may_join_all(activation: usize, access: Access, slots: &[Option<Holder>]) -> 
 
 /// Drops all slots of an activation.
 fn drop_all(slots: &mut Vec<Option<Holder>>, activation: usize)
-    ensures { slots.new.items ≡ filter (λ (s : Option machine.Holder). not (is_slot_of activation s)) slots.old.items }
+    ensures { slots.new.items ≡ filter (λ (s : Option Holder). not (is_slot_of activation s)) slots.old.items }
 {
     slots.retain(|slot| !is_slot_of(activation, slot));
 }
 
 /// Whether no activation but this one has a place.
 fn has_no_other(places: &BTreeMap<usize, usize>, activation: usize) -> bool
-    ensures { (access : Access) (slots : List (Option machine.Holder)) → ArePlaces access slots places.now.entries →
+    ensures { (access : Access) (slots : List (Option Holder)) → ArePlaces access slots places.now.entries →
         result ≡ no_other access activation (left slots) }
 {
     if places.contains_key(&activation) {
@@ -166,7 +166,7 @@ fn add(
 /// Empties the slot of an activation, if it has a place.
 fn take_out(slots: &mut Vec<Option<Holder>>, places: &mut BTreeMap<usize, usize>, activation: usize)
     ensures left { (access : Access) → ArePlaces access slots.old.items places.old.entries →
-        left slots.new.items ≡ filter (λ (h : machine.Holder). not (is_own access activation h)) (left slots.old.items) }
+        left slots.new.items ≡ filter (λ (h : Holder). not (is_own access activation h)) (left slots.old.items) }
     ensures places { (access : Access) → ArePlaces access slots.old.items places.old.entries →
         ArePlaces access slots.new.items places.new.entries }
     ensures others { (access other : Access) (others : List (ℕ × ℕ)) → ArePlaces access slots.old.items places.old.entries →

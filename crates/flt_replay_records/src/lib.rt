@@ -36,10 +36,7 @@ pub use holders::Holders;
 pub use laws::same_tests_find_the_same;
 pub use linked::Contexts;
 pub use lock_list::holds_lock;
-pub use parts::{
-    Actor, Arrival, Entry, Frame, Holder, Item, Link, Outcome, Position, Presence, Route, Standing,
-    Visit,
-};
+pub use parts::{Actor, Frame, Route, Visit};
 pub use rest::Upcoming;
 pub use sparse_counts::SparseCounts;
 pub use visit_list::Visits;

@@ -7,9 +7,8 @@ ghost use Rattle.flt_model.specs.World as spec;
 ghost use Rattle.flt_replay_records.specs.Links.{key_code};
 
 use crate::context_list::ContextList;
-use crate::parts::Link;
 use crate::place_set::Places;
-use flt_model::Key;
+use flt_model::{Key, Link};
 use std::alloc::{AllocError, Global};
 use std::marker::Model;
 

@@ -8,7 +8,8 @@ ghost use Rattle.flt_tree.specs.declared.filter.Statement.{out-Statement};
 
 use crate::going::Going;
 use crate::rest::Upcoming;
-use flt_tree::{Action, Condition, OperationVariable, Statement, Test};
+use flt_model::Variables;
+use flt_tree::{Action, Condition, OperationVariable, Statement};
 use std::alloc::AllocError;
 
 impl<'a> Going<'a> {
@@ -35,26 +36,6 @@ impl<'a> Going<'a> {
             Action::ReadValue(_, _) | Action::ReadFile(_, _) | Action::WriteValue(_, _) => {
                 Ok(false)
             }
-        }
-    }
-
-    /// The result of a test of the activation's own variables and flag, or none if it tests the operation.
-    #[inline(always)]
-    fn test(&self, draining: bool, test: Test) -> Option<bool>
-        ensures { result ≡ spec.holds_test draining self.now test }
-    {
-        match test {
-            Test::ContextIsSome(variable) => Some(self.context(variable).is_some()),
-            Test::OperationIsSome(variable) => {
-                Some(
-                    self.operation(OperationVariable::Removed(variable))
-                        .is_some(),
-                )
-            }
-            Test::Equal(variable, atom) => Some(self.number(variable) == self.atom(atom)),
-            Test::Less(variable, atom) => Some(self.number(variable) < self.atom(atom)),
-            Test::IsDraining => Some(draining),
-            Test::IsIrp => None,
         }
     }
 

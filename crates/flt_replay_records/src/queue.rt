@@ -3,13 +3,13 @@
 ghost use Rattle.std.specs.Prelude.{◌≡◌, ◌≤◌, ◌<◌, ◌==◌, ℕ, true, false, if◌then◌else◌, [], ◌∷◌, ◌++◌, Some, None, is_some};
 ghost use Rattle.std.specs.Prelude.{find, map, take, length, get_or, OnOk, OnErr, IfOk, MatchOption, ◌↔◌, IsTrue};
 ghost use Rattle.flt_model.specs.Violations.{in_queue};
-ghost use Rattle.flt_model.specs.World as machine;
+ghost use Rattle.flt_model.specs.declared.parts.Entry.{Entry};
 ghost use Rattle.flt_replay_records.specs.Counts.{count};
 ghost use Rattle.flt_replay_records.specs.Tickets.{is_of, without_first, lesser, present, stands, is_before, IsLeast};
 
 use crate::counts::Counts;
 use crate::number_map::NumberMap;
-use crate::parts::Entry;
+use flt_model::Entry;
 use std::alloc::{AllocError, Global};
 use std::marker::Model;
 
@@ -28,9 +28,9 @@ pub(crate) struct Queue {
 
 impl Model for Queue {
     ghost use Rattle.std.specs.Prelude.{List};
-    ghost use Rattle.flt_model.specs.World as machine;
+    ghost use Rattle.flt_model.specs.declared.parts.Entry.{Entry};
 
-    ghost Value = { List machine.Entry };
+    ghost Value = { List Entry };
 
     ghost use Rattle.flt_replay_records.specs.Tickets.{present, AreTickets};
 
@@ -61,7 +61,7 @@ impl Queue {
     /// The visits of the entries, in order.
     #[tactic(auto, using(crate::proofs::Queues::Tickets::listed_on))]
     pub(crate) fn visits(&self, alloc: Global) -> Result<Vec<usize>, AllocError>
-        ensures { IfOk result (λ vs. vs.items ≡ map (λ (e : machine.Entry). e.visit) self.now) }
+        ensures { IfOk result (λ vs. vs.items ≡ map (λ (e : Entry). e.visit) self.now) }
     {
         let mut visits = Vec::new(alloc);
         for ticket in self.front..self.entries.len() {
@@ -137,7 +137,7 @@ fn list_visit(
     ticket: usize,
 ) -> Result<(), AllocError>
     ensures { OnOk result
-        (visits.new.items ≡ visits.old.items ++ map (λ (e : machine.Entry). e.visit) (present (get_or entries.now ticket None ∷ []))) }
+        (visits.new.items ≡ visits.old.items ++ map (λ (e : Entry). e.visit) (present (get_or entries.now ticket None ∷ []))) }
 {
     if let Some(Some(entry)) = entries.get(ticket) {
         visits.push(entry.visit)?;

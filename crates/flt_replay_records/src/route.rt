@@ -3,17 +3,18 @@
 ghost use Rattle.std.specs.Prelude.{◌≡◌, ◌++◌, ◌<◌, Bool, Some, None, find, position, length, remove, slice_get, MatchOption};
 ghost use Rattle.std.specs.List.{before_first, after_first};
 ghost use Rattle.flt_model.specs.Moves as moves;
-ghost use Rattle.flt_model.specs.World as spec;
+ghost use Rattle.flt_model.specs.declared.parts.Position.TheVariants.{Visiting};
 
-use crate::parts::{Frame, Position, Route};
+use crate::parts::{Frame, Route};
+use flt_model::Position;
 
 impl Route {
     /// Takes out the frame of the lowest filter, and begins its visit.
-    #[tactic(auto, using(crate::proofs::LastFrames::last_after, crate::proofs::LastFrames::without_after))]
+    #[tactic(auto, using(flt_model::proofs::LastFrames::last_after, flt_model::proofs::LastFrames::without_after))]
     pub fn visit_last_frame(&mut self) -> Option<Frame>
         ensures { MatchOption result (moves.last_frame self.old.frames ≡ None)
             (λ f. (moves.last_frame self.old.frames ≡ Some f)
-            × (self.new ≡ record self.old { position = spec.Visiting; frames = moves.without_last self.old.frames })) }
+            × (self.new ≡ record self.old { position = Visiting; frames = moves.without_last self.old.frames })) }
     {
         let frame = self.frames.pop();
         if frame.is_some() {
@@ -80,7 +81,7 @@ fn remove_at<T: Drop>(items: &mut Vec<T>, place: usize) -> T
 }
 
 /// Takes out the item at a place, if one is given.
-#[tactic(auto, using(crate::proofs::FirstPlaces::found_there, crate::proofs::FirstPlaces::without, crate::proofs::FirstPlaces::none_found, crate::proofs::FirstPlaces::within))]
+#[tactic(auto, using(flt_tree::proofs::FirstPlaces::found_there, flt_tree::proofs::FirstPlaces::without, flt_tree::proofs::FirstPlaces::none_found, flt_tree::proofs::FirstPlaces::within))]
 fn take_out<T: Drop>(items: &mut Vec<T>, place: Option<usize>) -> Option<T>
     ensures { (test : T → Bool) → place ≡ position test items.old.items →
         MatchOption result (find test items.old.items ≡ None)

@@ -3,12 +3,12 @@
 ghost use Rattle.std.specs.Prelude.{◌≡◌, ◌+◌, List, [], ◌∷◌, ◌++◌, length, get_or, set, sum_by};
 ghost use Rattle.std.specs.Prelude.{find, map, Some, None, OnOk, IfOk, MatchOption, ◌↔◌, IsTrue};
 ghost use Rattle.flt_model.specs.Violations.{in_queue, in_item};
-ghost use Rattle.flt_model.specs.World as machine;
+ghost use Rattle.flt_model.specs.declared.parts.Entry.{Entry};
 ghost use Rattle.flt_replay_records.specs.Tickets.{is_of, without_first};
 
 use crate::counts::Counts;
-use crate::parts::{Entry, Item};
 use crate::queue::Queue;
+use flt_model::{Entry, Item};
 use std::alloc::{AllocError, Global};
 use std::marker::Model;
 
@@ -24,9 +24,10 @@ pub struct Waiting {
 
 impl Model for Waiting {
     ghost use Rattle.std.specs.Prelude.{List, Option};
-    ghost use Rattle.flt_model.specs.World as machine;
+    ghost use Rattle.flt_model.specs.declared.parts.Entry.{Entry};
+    ghost use Rattle.flt_model.specs.declared.parts.Item.{Item};
 
-    ghost Value = { List (List machine.Entry) × List (Option machine.Item) };
+    ghost Value = { List (List Entry) × List (Option Item) };
 
     ghost use Rattle.flt_replay_records.specs.Waiting.{AreWaiting};
 
@@ -82,7 +83,7 @@ impl Waiting {
 
     /// The visits of the entries of a filter's queue, in order.
     pub fn visits(&self, alloc: Global, filter: usize) -> Result<Vec<usize>, AllocError>
-        ensures { IfOk result (λ vs. vs.items ≡ map (λ (e : machine.Entry). e.visit) (get_or self.now.0 filter [])) }
+        ensures { IfOk result (λ vs. vs.items ≡ map (λ (e : Entry). e.visit) (get_or self.now.0 filter [])) }
     {
         match self.queues.get(filter) {
             Some(queue) => queue.visits(alloc),

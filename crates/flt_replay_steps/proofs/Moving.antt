@@ -4,7 +4,8 @@ use Rattle.std.proofs.lemmas.List.{drop_all}
 use Rattle.flt_tree.specs.declared.filter.Filter.{Filter}
 use Rattle.flt_model.specs.declared.event.Event.{Event}
 use Rattle.flt_model.specs.Moves.{post_by, last_frame, without_last, are_settled, has_active, drain_by, is_frame_of, other_frames}
-use Rattle.flt_model.specs.World.{World, Activation, Actor, Frame, Visit, Visiting, route_at, with_route}
+use Rattle.flt_model.specs.declared.parts.Position.TheVariants.{Visiting}
+use Rattle.flt_model.specs.World.{World, Activation, Actor, Frame, Visit, route_at, with_route}
 use Rattle.flt_replay_steps.specs.Starting.{starts_post}
 use Rattle.flt_replay_world.specs.Happening.{Happened, ComesOf}
 

@@ -10,7 +10,8 @@ use Rattle.flt_model.specs.declared.event.Event.TheVariants.{Call, Gain}
 use Rattle.flt_model.specs.declared.event.Object.TheVariants.{Visit}
 use Rattle.flt_model.specs.Effects.{gains_context}
 use Rattle.flt_model.specs.Calls.{remove_next}
-use Rattle.flt_model.specs.World.{World, Entry, actor_at, queue_at, with_queue}
+use Rattle.flt_model.specs.declared.parts.Entry.{Entry}
+use Rattle.flt_model.specs.World.{World, actor_at, queue_at, with_queue}
 use Rattle.flt_replay_steps.specs.Queueing.{gives_entry}
 use Rattle.flt_replay_world.specs.Happening.{later, Happened}
 

@@ -2,4 +2,3 @@ pub mod Boards
 pub mod Queueing
 pub mod Starting
 pub mod Unseen
-pub mod Ways

@@ -8,7 +8,8 @@ use Rattle.flt_model.specs.declared.event.Event.TheVariants as event
 use Rattle.flt_model.specs.declared.event.Object.TheVariants.{Visit}
 use Rattle.flt_model.specs.Effects.{Step, gains_context, onward, goes_on}
 use Rattle.flt_model.specs.Variables.{with_context_in, with_operation_in}
-use Rattle.flt_model.specs.World.{World, Entry}
+use Rattle.flt_model.specs.declared.parts.Entry.{Entry}
+use Rattle.flt_model.specs.World.{World}
 
 -- the variables name the entry's visit and context, in a world where it is out of the queue; NULL where there is none
 abbrev pub gives_entry : World → ℕ → RemovedVariable → ContextVariable → List Statement → Option Entry → Step

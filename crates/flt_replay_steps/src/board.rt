@@ -30,7 +30,7 @@ pub struct Setup {
     pub held: bool,
 }
 
-fn may_be_refused(call: &FallibleCall) -> bool
+fn may_be_refused(call: &FallibleCall<Routine>) -> bool
     ensures { result ≡ steps.may_be_refused call.now }
 {
     matches!(
@@ -125,7 +125,7 @@ fn fallible_step<'a>(
     stack: &Stack<'a>,
     a: usize,
     grant: bool,
-    call: &FallibleCall,
+    call: &FallibleCall<Routine>,
     to: Branches<'a>,
     events: &mut Vec<Event>,
 ) -> Result<(), AllocError>

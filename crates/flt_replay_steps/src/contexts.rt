@@ -10,8 +10,8 @@ ghost use Rattle.flt_replay_world.specs.Happening.{later, Happened};
 ghost use Rattle.flt_tree.specs.declared.variable.OperationVariable.TheVariants.{Data};
 
 use crate::effects::{context, need, need_one, operation};
-use flt_model::{Event, Key, Object};
-use flt_replay_records::{Link, Write};
+use flt_model::{Event, Key, Link, Object};
+use flt_replay_records::Write;
 use flt_replay_world::{World, push_event};
 use flt_rules::{Anchor, Call, Existing};
 use flt_tree::{ContextVariable, OperationVariable, Statement};

@@ -7,13 +7,12 @@ ghost use Rattle.flt_model.specs.Returns as spec;
 ghost use Rattle.flt_model.specs.Trace.{is_held};
 ghost use Rattle.flt_model.specs.Variables.{named_in};
 ghost use Rattle.flt_model.specs.World as machine;
-ghost use Rattle.flt_replay_steps.specs.Ways.{way_meant};
 ghost use Rattle.flt_replay_world.specs.Happening.{holds_given, Happened};
 ghost use Rattle.flt_tree.specs.Filter.{named_context};
 
 use crate::effects::{context, lose_context, need_one};
-use crate::settling::{Way, makes_frame, settled_by, settles_visit, way_of};
-use flt_model::{Answer, Event, Object};
+use crate::settling::{makes_frame, settled_by, way_of};
+use flt_model::{Answer, Event, Object, Way};
 use flt_replay_world::{Stack, World, push_event};
 use flt_tree::{OperationVariable, Status, named_context};
 use std::alloc::AllocError;
@@ -102,7 +101,7 @@ fn give_visit_back(
     events: &mut Vec<Event>,
 ) -> Result<(), AllocError>
     ensures { OnOk result ((t : List Event) → given.held ≡ is_held t a (Visit given.visit) →
-        events.new.items ≡ events.old.items ++ spec.visit_given_back [] t world.now a given.visit context (way_meant way)) }
+        events.new.items ≡ events.old.items ++ spec.visit_given_back [] t world.now a given.visit context way) }
 {
     if given.held {
         push_event(events, Event::Lose(a, Object::Visit(given.visit)))?;
@@ -110,7 +109,7 @@ fn give_visit_back(
     if makes_frame(world, given.visit, way) {
         lose_context(a, context, events)?;
     }
-    if settles_visit(way) {
+    if way.settles_visit() {
         push_event(events, Event::Settle(given.visit))?;
     }
     Ok(())

@@ -7,8 +7,8 @@ ghost use Rattle.flt_model.specs.World as spec;
 ghost use Rattle.flt_rules.specs.Held as held;
 ghost use Rattle.flt_replay_world.specs.Happening.{later, Happened};
 
-use flt_model::Event;
-use flt_replay_records::{Holder, Write};
+use flt_model::{Event, Holder};
+use flt_replay_records::Write;
 use flt_replay_world::{World, push_event};
 use flt_rules::{Access, Call, HeldLock, LockKind, LockNumber};
 use std::alloc::AllocError;

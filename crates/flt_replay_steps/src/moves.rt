@@ -4,12 +4,13 @@ ghost use Rattle.std.specs.Prelude.{◌≡◌, List, Some, None, IfOk, OnOk, Mat
 ghost use Rattle.flt_model.specs.declared.event.Event.{Event};
 ghost use Rattle.flt_model.specs.Moves as moves;
 ghost use Rattle.flt_model.specs.World as spec;
+ghost use Rattle.flt_model.specs.declared.parts.Position.TheVariants.{Down, Visiting};
 ghost use Rattle.flt_replay_world.specs.Happening.{ComesOf};
 
 use crate::starting::{start_post, start_pre};
 use crate::{teardown, waiting};
-use flt_model::{Event, Move, fits_mode};
-use flt_replay_records::{Arrival, Frame, Outcome, Position, Route};
+use flt_model::{Arrival, Event, Move, Outcome, Position, fits_mode};
+use flt_replay_records::{Frame, Route};
 use flt_replay_world::{Stack, World};
 use flt_rules::{FinalStatus, Mode, Operation};
 use std::alloc::{AllocError, Global};
@@ -67,7 +68,7 @@ fn pre_at<'a>(
     events: &mut Vec<Event>,
 ) -> Result<bool, AllocError>
     ensures { IfOk result (λ enabled. ComesOf
-        (moves.pre_at stack.now world.old operation kind (spec.Down filter)) enabled world.new events.old.items events.new.items) }
+        (moves.pre_at stack.now world.old operation kind (Down filter)) enabled world.new events.old.items events.new.items) }
 {
     if filter < stack.len() && calls_pre(world, stack, filter, kind) {
         start_pre(world, alloc, stack, operation, kind, filter, events)?;
@@ -146,7 +147,7 @@ fn visit_last_frame(world: &mut World<'_>, operation: usize) -> Option<Frame>
           store =
               spec.with_route world.old.store operation
               (record (spec.route_at world.old.store operation) {
-                position = spec.Visiting;
+                position = Visiting;
                 frames = moves.without_last (spec.route_at world.old.store operation).frames;
               });
         })) }

@@ -11,8 +11,8 @@ ghost use Rattle.flt_tree.specs.declared.variable.OperationVariable.TheVariants.
 
 use crate::contexts::Branches;
 use crate::effects::{CallOperands, context, gain_context, lose_context, need_named, need_one};
-use flt_model::{Event, Object};
-use flt_replay_records::{Entry, Item, Write};
+use flt_model::{Entry, Event, Item, Object};
+use flt_replay_records::Write;
 use flt_replay_world::{World, push_event};
 use flt_rules::Call;
 use flt_tree::{ContextVariable, OperationVariable, RemovedVariable, Statement};

@@ -4,94 +4,20 @@ ghost use Rattle.std.specs.Prelude.{◌≡◌, ◌+◌, ◌∷◌, ◌++◌, OnO
 ghost use Rattle.flt_model.specs.Calls as calls;
 ghost use Rattle.flt_model.specs.Effects as effects;
 ghost use Rattle.flt_model.specs.Settling as spec;
-ghost use Rattle.flt_model.specs.World as machine;
-ghost use Rattle.flt_model.specs.declared.event.Answer.TheVariants.{CompletesPre};
-ghost use Rattle.flt_replay_records.specs.Parts.{position_of};
-ghost use Rattle.flt_replay_steps.specs.Ways.{way_meant};
+ghost use Rattle.flt_model.specs.declared.parts.Position.TheVariants.{Down};
 ghost use Rattle.flt_replay_world.specs.Happening.{later, Happened};
-ghost use Rattle.flt_tree.specs.Variable.{whose};
 
 use crate::effects::{CallOperands, lose_context, need_named, need_one, operation};
-use flt_model::{Answer, Event, Object};
-use flt_replay_records::{Frame, Outcome, Position, Route, Write};
+use flt_model::{Answer, Event, Object, Position, Way};
+use flt_replay_records::{Frame, Route, Write};
 use flt_replay_world::{Stack, World, push_event};
 use flt_rules::{Call, Stage};
-use flt_tree::{ContextVariable, OperationVariable, Status};
+use flt_tree::{OperationVariable, Status};
 use std::alloc::AllocError;
-
-/// Where a status leads the operation.
-#[derive(Clone, Copy)]
-pub(crate) enum Way {
-    /// On to the next filter.
-    Passes,
-    /// On to the next filter, with a frame for the post callback.
-    Frames,
-    /// Up from here.
-    Ends(Outcome),
-    /// On up, after a post callback.
-    Rises,
-    /// Nowhere: the filter keeps the operation.
-    Stays,
-}
-
-/// The status that an answer gives.
-fn given_by(answer: Answer) -> Option<Status>
-    ensures { result ≡ spec.given_by answer }
-{
-    match answer {
-        Answer::Returned(status) => status,
-        Answer::CompletesPre { status, .. } => Some(status),
-        Answer::CompletesPost { .. } => Some(Status::FinishedProcessing),
-    }
-}
-
-/// Whether a callback returned the status.
-fn is_returned(answer: Answer) -> bool
-    ensures { result ≡ spec.is_returned answer }
-{
-    matches!(answer, Answer::Returned(_))
-}
-
-/// Before the filters below. A status without a meaning of its own there is taken as NO_CALLBACK.
-fn way_before(has_post: bool, returned: bool, status: Option<Status>) -> Way
-    ensures { way_meant result ≡ spec.way_before has_post returned status }
-{
-    match status {
-        Some(Status::WithCallback(_) | Status::Synchronize(_)) if has_post => Way::Frames,
-        Some(Status::Complete(last)) => Way::Ends(Outcome::Completed(last)),
-        Some(Status::Pending) if returned => Way::Stays,
-        Some(Status::DisallowFastIo) if returned => Way::Ends(Outcome::Disallowed),
-        _ => Way::Passes,
-    }
-}
-
-/// After the filters below.
-fn way_after(returned: bool, status: Option<Status>) -> Way
-    ensures { way_meant result ≡ spec.way_after returned status }
-{
-    match status {
-        Some(Status::MoreProcessingRequired) if returned => Way::Stays,
-        _ => Way::Rises,
-    }
-}
-
-/// Whether the filter's part is over.
-pub(crate) fn settles_visit(way: Way) -> bool
-    ensures { result ≡ spec.settles_visit (way_meant way) }
-{
-    !matches!(way, Way::Stays)
-}
-
-/// Whether the post callback will be called.
-fn asks_for_frame(way: Way) -> bool
-    ensures { result ≡ spec.asks_for_frame (way_meant way) }
-{
-    matches!(way, Way::Frames)
-}
 
 /// The place below a filter. A filter's number is less than how many filters there are, so there is always a next one.
 fn next_below(filter: usize) -> Result<Position, AllocError>
-    ensures { IfOk result (λ p. position_of p ≡ machine.Down (filter + 1)) }
+    ensures { IfOk result (λ p. p ≡ Down (filter + 1)) }
 {
     match filter.checked_add(1) {
         Some(filter) => Ok(Position::Down(filter)),
@@ -106,7 +32,7 @@ fn lead_from(
     context: Option<usize>,
     way: Way,
 ) -> Result<(), AllocError>
-    ensures { OnOk result (route.new ≡ spec.led filter context (way_meant way) route.old) }
+    ensures { OnOk result (route.new ≡ spec.led filter context way route.old) }
 {
     match way {
         Way::Passes => route.position = next_below(filter)?,
@@ -126,16 +52,16 @@ fn lead_from(
 
 /// Where an answer leads the operation of a visit.
 pub(crate) fn way_of<'a>(world: &World<'a>, stack: &Stack<'a>, visit: usize, answer: Answer) -> Way
-    ensures { way_meant result ≡ spec.way_of stack.now world.now.store visit answer }
+    ensures { result ≡ spec.way_of stack.now world.now.store visit answer }
 {
-    let returned = is_returned(answer);
-    let status = given_by(answer);
+    let returned = answer.is_returned();
+    let status = answer.status();
     match world.stage(visit) {
         Stage::Pre => {
             let has_post = stack.has_post(world.filter_of(visit), world.kind_of(visit));
-            way_before(has_post, returned, status)
+            Way::before(has_post, returned, status)
         }
-        Stage::Post => way_after(returned, status),
+        Stage::Post => Way::after(returned, status),
     }
 }
 
@@ -148,9 +74,9 @@ fn is_led(world: &World<'_>, visit: usize) -> bool
 
 /// Whether a frame is made, which takes the context over.
 pub(crate) fn makes_frame(world: &World<'_>, visit: usize, way: Way) -> bool
-    ensures { result ≡ spec.makes_frame world.now.store visit (way_meant way) }
+    ensures { result ≡ spec.makes_frame world.now.store visit way }
 {
-    asks_for_frame(way) && is_led(world, visit)
+    way.asks_for_frame() && is_led(world, visit)
 }
 
 /// Leads the operation, if the visit still moves it.
@@ -160,7 +86,7 @@ fn lead(
     context: Option<usize>,
     way: Way,
 ) -> Result<(), AllocError>
-    ensures { OnOk result (world.new ≡ record world.old { store = spec.lead world.old.store visit context (way_meant way) }) }
+    ensures { OnOk result (world.new ≡ record world.old { store = spec.lead world.old.store visit context way }) }
 {
     if is_led(world, visit) {
         let filter = world.filter_of(visit);
@@ -179,9 +105,9 @@ pub(crate) fn settled_by(
     context: Option<usize>,
     way: Way,
 ) -> Result<(), AllocError>
-    ensures { OnOk result (world.new ≡ record world.old { store = spec.settled_by world.old.store visit context (way_meant way) }) }
+    ensures { OnOk result (world.new ≡ record world.old { store = spec.settled_by world.old.store visit context way }) }
 {
-    if settles_visit(way) {
+    if way.settles_visit() {
         lead(world, visit, context, way)?;
         world.settle(visit);
     }
@@ -189,17 +115,6 @@ pub(crate) fn settled_by(
 }
 
 // ---- completion
-
-/// The answer that FltCompletePendedPreOperation hands on.
-fn completes_pre(variable: OperationVariable, visit: usize, status: Status) -> Answer
-    ensures { result ≡ CompletesPre (whose variable) visit status }
-{
-    Answer::CompletesPre {
-        whose: variable.whose(),
-        visit,
-        status,
-    }
-}
 
 /// The visit is given back and settled.
 fn completed<'a>(
@@ -240,11 +155,11 @@ fn complete_by<'a>(
     match (named.visit, named.context) {
         (None, _) | (Some(_), Some(None)) => world.go_on(a, &[], Write::Nothing),
         (Some(visit), Some(Some(x))) => {
-            let answer = completes_pre(d, visit, status);
+            let answer = Answer::completes_pre(d, visit, status);
             completed(world, stack, a, visit, Some(x), answer, events)
         }
         (Some(visit), None) => {
-            let answer = completes_pre(d, visit, status);
+            let answer = Answer::completes_pre(d, visit, status);
             completed(world, stack, a, visit, None, answer, events)
         }
     }
@@ -271,7 +186,10 @@ pub(crate) fn complete_pre<'a>(
         Event::Call(a, Call::CompletePendedPreOperation(d.whose())),
     )?;
     if let Some(visit) = named.visit {
-        push_event(events, Event::Status(a, completes_pre(d, visit, status)))?;
+        push_event(
+            events,
+            Event::Status(a, Answer::completes_pre(d, visit, status)),
+        )?;
     }
     need_named(a, named, events)?;
     complete_by(world, stack, a, d, status, named, events)

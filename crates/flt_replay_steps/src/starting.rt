@@ -6,8 +6,8 @@ ghost use Rattle.flt_model.specs.Moves as moves;
 ghost use Rattle.flt_replay_steps.specs.Starting.{starts_post};
 ghost use Rattle.flt_replay_world.specs.Happening.{Happened};
 
-use flt_model::{Event, Object};
-use flt_replay_records::{Activation, Actor, Frame, Position, Visit};
+use flt_model::{Event, Object, Position};
+use flt_replay_records::{Activation, Actor, Frame, Visit};
 use flt_replay_world::{Stack, World, push_event};
 use flt_rules::{Operation, Place, Stage};
 use flt_tree::Statement;

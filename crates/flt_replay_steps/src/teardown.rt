@@ -8,8 +8,8 @@ ghost use Rattle.flt_model.specs.World as spec;
 ghost use Rattle.flt_replay_world.specs.Happening.{ComesOf};
 
 use crate::starting::start_post;
-use flt_model::{Event, Key};
-use flt_replay_records::{Activation, Actor, Frame, Item, Link, Presence};
+use flt_model::{Event, Item, Key, Link, Presence};
+use flt_replay_records::{Activation, Actor, Frame};
 use flt_replay_world::{Stack, World};
 use std::alloc::{AllocError, Global};
 

@@ -6,8 +6,8 @@ ghost use Rattle.flt_model.specs.World as spec;
 ghost use Rattle.flt_replay_world.specs.Happening.{ComesOf};
 
 use crate::starting::{Start, start_activation};
-use flt_model::Event;
-use flt_replay_records::{Actor, Item};
+use flt_model::{Event, Item};
+use flt_replay_records::Actor;
 use flt_replay_world::{Stack, World};
 use flt_rules::Place;
 use std::alloc::{AllocError, Global};

@@ -8,7 +8,9 @@ use Rattle.std.proofs.lemmas.Bool.{eqb-true, cases_lt, lt-ltb}
 use Rattle.std.proofs.lemmas.Bool.Decides.{nat_tests}
 use Rattle.std.proofs.lemmas.List.{get_or_past}
 use Rattle.std.proofs.lemmas.Map.Views.{any-filter_same}
-use Rattle.flt_model.specs.World.{World, Entry, Item, Visit, Store, no_visit, visit_at, queue_at, with_queue}
+use Rattle.flt_model.specs.declared.parts.Entry.{Entry}
+use Rattle.flt_model.specs.declared.parts.Item.{Item}
+use Rattle.flt_model.specs.World.{World, Visit, Store, no_visit, visit_at, queue_at, with_queue}
 use Rattle.flt_model.specs.Moves.{is_entry_of, other_entries}
 use Rattle.flt_replay_records.specs.Tickets.{is_of, without_first}
 use Rattle.flt_replay_records.specs.Unsettled.{is_visit_of}

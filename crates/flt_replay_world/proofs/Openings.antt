@@ -1,7 +1,10 @@
 -- The world before the first move doesn't depend on the filters but for how many they are.
 use Rattle.std.proofs.Common.{◌≡◌, ℕ, List, [], ◌∷◌, length, map, replicate, refl, ap}
 use Rattle.flt_tree.specs.declared.filter.Filter.{Filter}
-use Rattle.flt_model.specs.World.{Attached, Entry, Holder, opening}
+use Rattle.flt_model.specs.declared.parts.Entry.{Entry}
+use Rattle.flt_model.specs.declared.parts.Holder.{Holder}
+use Rattle.flt_model.specs.declared.parts.Presence.TheVariants.{Attached}
+use Rattle.flt_model.specs.World.{opening}
 use Rattle.flt_replay_world.specs.Opening.{opened}
 
 all_the_same : {X : Type 0} (x : X) (p : List Filter) → replicate (length p) x ≡ map (λ _. x) p

@@ -1,6 +1,7 @@
 -- The world before the first move, by how many filters there are.
 use Rattle.std.specs.Prelude.{ℕ, [], replicate}
-use Rattle.flt_model.specs.World.{World, Attached}
+use Rattle.flt_model.specs.declared.parts.Presence.TheVariants.{Attached}
+use Rattle.flt_model.specs.World.{World}
 
 abbrev pub opened : ℕ → World
 opened n = record {

@@ -8,24 +8,6 @@ ghost use Rattle.flt_rules.specs.Held as held;
 use flt_rules::{HeldLock, Level, LockKind, LockNumber, Operation, Place, entry_level, raised_by};
 use flt_tree::{Callback, Filter, Head, Routine, Statement};
 
-fn is_pre_of(kind: Operation, head: &Head) -> bool
-    ensures { result ≡ spec.is_pre_of kind head.now }
-{
-    match head {
-        Head::Pre(own) => own.is_same(kind),
-        _ => false,
-    }
-}
-
-fn is_post_of(kind: Operation, head: &Head) -> bool
-    ensures { result ≡ spec.is_post_of kind head.now }
-{
-    match head {
-        Head::Post(own) => own.is_same(kind),
-        _ => false,
-    }
-}
-
 fn is_canceled(head: &Head) -> bool
     ensures { result ≡ spec.is_canceled head.now }
 {
@@ -35,13 +17,13 @@ fn is_canceled(head: &Head) -> bool
 pub(crate) fn has_pre(callbacks: &[Callback], kind: Operation) -> bool
     ensures { result ≡ spec.has_pre callbacks.now kind }
 {
-    callbacks.iter().any(|c| is_pre_of(kind, &c.head))
+    callbacks.iter().any(|c| c.head.is_pre_of(kind))
 }
 
 pub(crate) fn has_post(callbacks: &[Callback], kind: Operation) -> bool
     ensures { result ≡ spec.has_post callbacks.now kind }
 {
-    callbacks.iter().any(|c| is_post_of(kind, &c.head))
+    callbacks.iter().any(|c| c.head.is_post_of(kind))
 }
 
 fn is_paired(callbacks: &[Callback], kind: Operation) -> bool
@@ -66,7 +48,7 @@ pub(crate) fn pre_body(callbacks: &[Callback], kind: Operation) -> &[Statement]
 {
     match callbacks {
         [] => &[],
-        [first, ..] if is_pre_of(kind, &first.head) => first.body.as_slice(),
+        [first, ..] if first.head.is_pre_of(kind) => first.body.as_slice(),
         [_, others @ ..] => pre_body(others, kind),
     }
 }
@@ -76,7 +58,7 @@ pub(crate) fn post_body(callbacks: &[Callback], kind: Operation) -> &[Statement]
 {
     match callbacks {
         [] => &[],
-        [first, ..] if is_post_of(kind, &first.head) => first.body.as_slice(),
+        [first, ..] if first.head.is_post_of(kind) => first.body.as_slice(),
         [_, others @ ..] => post_body(others, kind),
     }
 }

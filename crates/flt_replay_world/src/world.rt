@@ -9,16 +9,17 @@ ghost use Rattle.flt_model.specs.Reads as reads;
 ghost use Rattle.flt_model.specs.Variables as variables;
 ghost use Rattle.flt_model.specs.Violations.{in_queue, in_item};
 ghost use Rattle.flt_model.specs.World as spec;
+ghost use Rattle.flt_model.specs.declared.parts.Presence.TheVariants.{Attached, Detached};
 ghost use Rattle.flt_replay_world.specs.Opening.{opened};
-ghost use Rattle.flt_replay_records.specs.Parts.{presence_of, position_of};
 ghost use Rattle.std.specs.List.{AllByRecursion, list_any};
 ghost use Rattle.flt_replay_records.specs.Tickets.{is_of};
 ghost use Rattle.flt_replay_records.specs.Writes.{written};
 ghost use Rattle.flt_replay_world.specs.Happening.{later};
 
+use flt_model::{Arrival, Entry, Holder, Item, Link, Position, Presence, Variables};
 use flt_replay_records::{
-    Activation, Actor, Arrival, Contexts, Entry, Holder, Holders, Item, Link, Position, Presence,
-    Route, Spare, Standing, Visit, Visits, Waiting, Write, same_tests_find_the_same,
+    Activation, Actor, Contexts, Holders, Route, Spare, Visit, Visits, Waiting, Write,
+    same_tests_find_the_same,
 };
 use flt_rules::{Access, HeldLock, LockNumber, Mode, Operation, Place, Stage};
 use flt_tree::{Atom, ContextVariable, OperationVariable, Statement};
@@ -32,7 +33,7 @@ pub struct World<'a> {
     pub actors: Vec<Actor>,
     pub activations: Vec<Activation<'a>>,
     pub spare: Spare<'a>,
-    presences: Vec<Standing>,
+    presences: Vec<Presence>,
     /// By lock.
     holders: Vec<[Holders; 8]>,
     pub arrivals: Vec<Arrival>,
@@ -70,11 +71,11 @@ impl<'a> Model for World<'a> {
 }
 
 #[tactic(auto, using(crate::proofs::Reading::found, crate::proofs::Reading::missing))]
-fn presence_among(presences: &[Standing], filter: usize) -> Presence
-    ensures { presence_of result ≡ get_or presences.now filter spec.Detached }
+fn presence_among(presences: &[Presence], filter: usize) -> Presence
+    ensures { result ≡ get_or presences.now filter Detached }
 {
     match at(presences, filter) {
-        Some(standing) => standing.presence,
+        Some(presence) => *presence,
         None => Presence::Detached,
     }
 }
@@ -110,7 +111,7 @@ fn copy_of(alloc: Global, locks: &[HeldLock]) -> Result<Items<HeldLock>, AllocEr
 impl<'a> World<'a> {
     /// Whether a filter's instance is there; one that has no number was detached.
     pub fn presence(&self, filter: usize) -> Presence
-        ensures { presence_of result ≡ spec.presence_at self.now.store filter }
+        ensures { result ≡ spec.presence_at self.now.store filter }
     {
         presence_among(self.presences.as_slice(), filter)
     }
@@ -165,7 +166,7 @@ impl<'a> World<'a> {
     /// The position of an operation; up if it isn't there.
     #[tactic(auto, using(crate::proofs::Reading::found, crate::proofs::Reading::missing))]
     pub fn position(&self, operation: usize) -> Position
-        ensures { position_of result ≡ (spec.route_at self.now.store operation).position }
+        ensures { result ≡ (spec.route_at self.now.store operation).position }
     {
         match at(self.routes.as_slice(), operation) {
             Some(route) => route.position,
@@ -498,15 +499,13 @@ impl<'a> World<'a> {
         ensures { OnOk result (self.new ≡ record self.old {
           store =
               record self.old.store {
-                presences = self.old.store.presences ++ spec.Attached ∷ [];
+                presences = self.old.store.presences ++ Attached ∷ [];
                 queues = self.old.store.queues ++ [] ∷ [];
                 holders = self.old.store.holders ++ replicate 8 [] ∷ [];
               };
         }) }
     {
-        self.presences.push(Standing {
-            presence: Presence::Attached,
-        })?;
+        self.presences.push(Presence::Attached)?;
         self.waiting.add_queue(alloc)?;
         self.holders.push(unheld(alloc))?;
         Ok(())
@@ -533,10 +532,10 @@ impl<'a> World<'a> {
 
     /// Sets the presence of a filter.
     pub fn set_presence(&mut self, filter: usize, presence: Presence)
-        ensures { self.new ≡ record self.old { store = spec.with_presence self.old.store filter (presence_of presence) } }
+        ensures { self.new ≡ record self.old { store = spec.with_presence self.old.store filter presence } }
     {
-        if let Some(standing) = self.presences.get_mut(filter) {
-            standing.presence = presence;
+        if let Some(kept) = self.presences.get_mut(filter) {
+            *kept = presence;
         }
     }
 
@@ -545,7 +544,7 @@ impl<'a> World<'a> {
         ensures { self.new ≡ record self.old {
           store =
               spec.with_route self.old.store operation
-              (record (spec.route_at self.old.store operation) { position = position_of position });
+              (record (spec.route_at self.old.store operation) { position = position });
         } }
     {
         if let Some(route) = self.routes.get_mut(operation) {

@@ -4,6 +4,7 @@ pub mod Held
 pub mod Limits
 pub mod Parsing
 pub mod Place
+pub mod Refusal
 pub mod Rule
 pub mod Status
 pub mod Table

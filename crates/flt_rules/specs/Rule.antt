@@ -1,4 +1,4 @@
--- The rules of the verifier, with their numbers and the words that follow them in a refusal line.
+-- The rules of the verifier, with their numbers, their names and the words that follow them in a refusal line.
 use Rattle.std.specs.Prelude.{ℕ, List, codes}
 use Rattle.flt_rules.specs.declared.rule.Rule.{Rule}
 use Rattle.flt_rules.specs.declared.rule.Rule.TheVariants.{R01, R02, R03, R04, R05, R06, R07, R08, R09, R10, R11, R12, R13, R14, R15}
@@ -37,3 +37,21 @@ text R12 = codes "lock lists differ where paths meet"
 text R13 = codes "hand-over of a variable not held"
 text R14 = codes "certificate does not cover"
 text R15 = codes "end without status"
+
+-- the number as it is printed
+abbrev pub rule_name : Rule → List ℕ
+rule_name R01 = codes "R01"
+rule_name R02 = codes "R02"
+rule_name R03 = codes "R03"
+rule_name R04 = codes "R04"
+rule_name R05 = codes "R05"
+rule_name R06 = codes "R06"
+rule_name R07 = codes "R07"
+rule_name R08 = codes "R08"
+rule_name R09 = codes "R09"
+rule_name R10 = codes "R10"
+rule_name R11 = codes "R11"
+rule_name R12 = codes "R12"
+rule_name R13 = codes "R13"
+rule_name R14 = codes "R14"
+rule_name R15 = codes "R15"

@@ -8,6 +8,7 @@ mod columns;
 mod held;
 mod limits;
 mod place;
+mod refusal;
 mod rule;
 mod status;
 mod table;
@@ -20,6 +21,7 @@ pub use limits::{
     MAX_OPERATIONS, MAX_POINTS, MAX_REPEATS, MAX_TEXT, MAX_TURNS,
 };
 pub use place::{Level, Mode, Operation, Place, Stage, entry_level, raised_by};
+pub use refusal::Refusal;
 pub use rule::{Rule, number, text};
 pub use status::{FinalStatus, Possession, StatusRow, StatusWord, status_row};
 pub use table::row;

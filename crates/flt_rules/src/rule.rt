@@ -68,3 +68,28 @@ pub fn text(rule: Rule) -> &'static str
         Rule::R15 => "end without status",
     }
 }
+
+impl Rule {
+    /// The rule's number as it is printed: `R01` to `R15`.
+    pub fn name(self) -> &'static str
+        ensures { result.now ≡ spec.rule_name self }
+    {
+        match self {
+            Rule::R01 => "R01",
+            Rule::R02 => "R02",
+            Rule::R03 => "R03",
+            Rule::R04 => "R04",
+            Rule::R05 => "R05",
+            Rule::R06 => "R06",
+            Rule::R07 => "R07",
+            Rule::R08 => "R08",
+            Rule::R09 => "R09",
+            Rule::R10 => "R10",
+            Rule::R11 => "R11",
+            Rule::R12 => "R12",
+            Rule::R13 => "R13",
+            Rule::R14 => "R14",
+            Rule::R15 => "R15",
+        }
+    }
+}

@@ -91,7 +91,7 @@ fn is_routine(one: &Routine, other: &Routine) -> bool
 }
 
 /// Whether the first call is the second without its places.
-fn is_call(one: &FallibleCall, other: &FallibleCall) -> bool
+fn is_call(one: &FallibleCall<Routine>, other: &FallibleCall<Routine>) -> bool
     ensures { IsTrue result ↔ (one.now ≡ call_without other.now) }
 {
     match (one, other) {

@@ -14,7 +14,8 @@ one_more R (z ∷ xs) [] (suc i) d y less all new = absurd all
 one_more R (z ∷ xs) (w ∷ ys) (suc i) d y less all new = (all.0, one_more R xs ys i d y (omega (arith, less)) all.1 new)
 
 -- the acquisitions up to the next one have one each, where those before it do, and it does
-pub one_waits_more : (number : ℕ) (circle : List Acquisition) (i : ℕ) (d : Acquisition) (b : BlockedActivation) (round more : List BlockedActivation) →
+pub one_waits_more : (number : ℕ) (circle : List Acquisition) (i : ℕ) (d : Acquisition)
+    (b : BlockedActivation) (round more : List BlockedActivation) →
     i < length circle → AllZip (WaitsAt number) (take i circle) round → WaitsAt number (get_or circle i d) b →
     more ≡ round ++ b ∷ [] → AllZip (WaitsAt number) (take (i + 1) circle) more
 one_waits_more number circle i d b round more less kept new after =

@@ -230,7 +230,7 @@ fn before(instruction: &Instruction, lives: &[Live], values: bool) -> Live {
     match instruction {
         Instruction::Act(action, next) => before_action(*action, live_at(lives, *next), values),
         Instruction::Call(call, yes, no) => {
-            before_call(call, live_at(lives, *yes).and(live_at(lives, *no)))
+            before_call(&call.roles(), live_at(lives, *yes).and(live_at(lives, *no)))
         }
         Instruction::Test(test, yes, no) => {
             before_test(*test, live_at(lives, *yes).and(live_at(lives, *no)))

@@ -76,6 +76,7 @@ fn add_started(graph: &Graph, instruction: &Instruction, started: &mut Callbacks
     let Instruction::Call(call, _, _) = instruction else {
         return;
     };
+    let call = call.roles();
     match call.call {
         Call::InsertIo => {
             if let Some(canceled) = callback_at(graph, Place::Canceled) {

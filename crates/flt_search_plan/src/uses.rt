@@ -63,7 +63,7 @@ pub(crate) fn uses_of(graph: &Graph) -> Uses {
     for callback in graph.callbacks.as_slice() {
         for point in callback.points.as_slice() {
             if let Instruction::Call(call, _, _) = point.instruction {
-                uses.add(call.call);
+                uses.add(call.roles().call);
             }
         }
     }

@@ -8,24 +8,6 @@ ghost use Rattle.flt_model.specs.Program as program;
 use flt_rules::Operation;
 use flt_tree::{Callback, Head, Routine};
 
-fn is_pre_of(kind: Operation, head: &Head) -> bool
-    ensures { result ≡ registered.is_pre_of kind head.now }
-{
-    match head {
-        Head::Pre(own) => own.is_same(kind),
-        _ => false,
-    }
-}
-
-fn is_post_of(kind: Operation, head: &Head) -> bool
-    ensures { result ≡ registered.is_post_of kind head.now }
-{
-    match head {
-        Head::Post(own) => own.is_same(kind),
-        _ => false,
-    }
-}
-
 fn is_canceled(head: &Head) -> bool
     ensures { result ≡ program.is_canceled head.now }
 {
@@ -35,13 +17,13 @@ fn is_canceled(head: &Head) -> bool
 pub(crate) fn has_pre(callbacks: &[Callback], kind: Operation) -> bool
     ensures { result ≡ registered.has_pre callbacks.now kind }
 {
-    callbacks.iter().any(|c| is_pre_of(kind, &c.head))
+    callbacks.iter().any(|c| c.head.is_pre_of(kind))
 }
 
 pub(crate) fn has_post(callbacks: &[Callback], kind: Operation) -> bool
     ensures { result ≡ registered.has_post callbacks.now kind }
 {
-    callbacks.iter().any(|c| is_post_of(kind, &c.head))
+    callbacks.iter().any(|c| c.head.is_post_of(kind))
 }
 
 pub(crate) fn pre_number(callbacks: &[Callback], kind: Operation) -> usize
@@ -50,7 +32,7 @@ pub(crate) fn pre_number(callbacks: &[Callback], kind: Operation) -> usize
 {
     match callbacks {
         [] => 0,
-        [first, ..] if is_pre_of(kind, &first.head) => 0,
+        [first, ..] if first.head.is_pre_of(kind) => 0,
         [_, others @ ..] => pre_number(others, kind) + 1,
     }
 }
@@ -61,7 +43,7 @@ pub(crate) fn post_number(callbacks: &[Callback], kind: Operation) -> usize
 {
     match callbacks {
         [] => 0,
-        [first, ..] if is_post_of(kind, &first.head) => 0,
+        [first, ..] if first.head.is_post_of(kind) => 0,
         [_, others @ ..] => post_number(others, kind) + 1,
     }
 }

@@ -7,7 +7,7 @@ ghost use Rattle.flt_search_started.specs.Marks.{is_marked as marked};
 
 use crate::callbacks::{canceled_number, has_post, post_number, routine_of};
 use flt_rules::{Operation, Place};
-use flt_tree::{Callback, Condition, FallibleCall, PlainCall, Statement, Status};
+use flt_tree::{Callback, Condition, FallibleCall, PlainCall, Routine, Statement, Status};
 
 /// Whether a callback is marked.
 pub(crate) fn is_marked(marks: &[bool], number: usize) -> bool
@@ -71,7 +71,7 @@ fn plain_within(callbacks: &[Callback], marks: &[bool], call: PlainCall) -> bool
     }
 }
 
-fn fallible_within(callbacks: &[Callback], marks: &[bool], call: &FallibleCall) -> bool
+fn fallible_within(callbacks: &[Callback], marks: &[bool], call: &FallibleCall<Routine>) -> bool
     ensures { result ≡ spec.fallible_within callbacks.now (marked marks.now) call.now }
 {
     match call {

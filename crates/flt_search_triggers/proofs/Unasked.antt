@@ -1,12 +1,11 @@
 -- What no point starts no statement asks for: all other callbacks are a closed set.
-use Rattle.std.proofs.Common.{◌≡◌, ℕ, zero, suc, ◌+◌, ◌<◌, ◌≤◌, Bool, true, false, not, ◌||◌, cond}
-use Rattle.std.proofs.Common.{List, [], ◌∷◌, Option, Some, None, refl, sym, ap, subst, ◌∙◌, arith}
-use Rattle.std.proofs.lemmas.Bool.{and_from, or_parts, eqb-true, eq-eqb, lt-ltb}
+use Rattle.std.proofs.Common.{◌≡◌, ℕ, zero, suc, ◌+◌, ◌<◌, ◌≤◌, Bool, true, false, not, ◌||◌, List, [], ◌∷◌, Option, Some, None, refl, sym}
+use Rattle.std.proofs.Common.{ap, subst, ◌∙◌, arith}
+use Rattle.std.proofs.lemmas.Bool.{and_from, or_parts, eqb-true, eq-eqb}
 use Rattle.std.proofs.lemmas.List.Sums.{passes_at_first, sum-map, sum_by-cons}
 use Rattle.std.proofs.lemmas.Option.{get_or_from_slice_get, slice_get-get_or}
 use Rattle.std.specs.Prelude.{◌&&◌, ◌==◌, length, get_or, slice_get}
 use Rattle.std.specs.List.{list_any}
-use Rattle.std.specs.Option.{option_map_or}
 use Rattle.flt_rules.specs.Place.{same_operation}
 use Rattle.flt_rules.specs.declared.call.Call.TheVariants as call
 use Rattle.flt_rules.specs.declared.call.Possessed.{Possessed}
@@ -15,7 +14,7 @@ use Rattle.flt_rules.specs.declared.place.Operation.TheVariants.{Create, Read, W
 use Rattle.flt_rules.specs.declared.place.Place.TheVariants as place
 use Rattle.flt_tree.specs.Filter.{head_place, is_named}
 use Rattle.flt_tree.specs.Measures.{points, points_of, points_step}
-use Rattle.flt_tree.specs.Registered.{has_post, is_pre_of, is_post_of, routine_at, routine_of}
+use Rattle.flt_tree.specs.Registered.{has_post, is_pre_of, is_post_of, numbered, routine_of}
 use Rattle.flt_tree.specs.Variable.{whose}
 use Rattle.flt_tree.specs.declared.filter.Callback.{Callback}
 use Rattle.flt_tree.specs.declared.filter.Condition.{Condition}
@@ -192,19 +191,11 @@ module _ (cs : List Callback) (k : ℕ) (c : Callback) (within : k < length cs) 
           second true b e = refl
           second false b e = e
 
-  routine_by : (r : Routine) → (is_named r.name c.head ≡ true → option_map_or (λ n. n == k) (routine_at cs r) false ≡ false) →
-      may (routine_of cs r) ≡ true
+  routine_by : (r : Routine) → (is_named r.name c.head ≡ true → (routine_of cs r == k) ≡ false) → may (routine_of cs r) ≡ true
   routine_by r h = by (is_named r.name c.head) refl
     where
-      item : (b : Bool) → (routine_of cs r == k) ≡ b → option_map_or (λ n. n == k) (routine_at cs r) false ≡ false → not b ≡ true
-      item false e h = refl
-      item true e h =
-          both (routine_of cs r == k) e
-          (subst (λ b. option_map_or (λ n. n == k) (cond b (Some (routine_of cs r)) None) false ≡ false)
-          (lt-ltb (routine_of cs r) (length cs) (subst (λ n. n < length cs) (sym (eqb-true (routine_of cs r) k e)) within)) h)
-
       by : (b : Bool) → is_named r.name c.head ≡ b → may (routine_of cs r) ≡ true
-      by true e = item (routine_of cs r == k) refl (h e)
+      by true e = ap not (h e)
       by false e = other (is_named r.name) e
 
   plain_by : (x : PlainCall) → is_started_to (plain x).call (plain x) k (head_place c.head) ≡ false → plain_within cs may x ≡ true
@@ -214,13 +205,14 @@ module _ (cs : List Callback) (k : ℕ) (c : Callback) (within : k < length cs) 
       and_from _ _ (one Create) (and_from _ _ (one Read) (and_from _ _ (one Write) (and_from _ _ (one Cleanup) refl)))
   plain_by _ none = refl
 
-  fallible_by : (x : FallibleCall) → is_started_to (fallible cs x).call (fallible cs x) k (head_place c.head) ≡ false →
+  fallible_by : (x : FallibleCall Routine) →
+      is_started_to (fallible (numbered cs x)).call (fallible (numbered cs x)) k (head_place c.head) ≡ false →
       fallible_within cs may x ≡ true
-  fallible_by (fallible_call.InsertIo a) none = other is_canceled (inserted c.head (fallible cs (fallible_call.InsertIo a)) k none)
+  fallible_by (fallible_call.InsertIo a) none = other is_canceled (inserted c.head (fallible (fallible_call.InsertIo a)) k none)
   fallible_by (fallible_call.QueueDeferredIoWorkItem r a) none =
-      routine_by r (deferred c.head (fallible cs (fallible_call.QueueDeferredIoWorkItem r a)) k r.name none)
+      routine_by r (deferred c.head (fallible (numbered cs (fallible_call.QueueDeferredIoWorkItem r a))) k r.name none)
   fallible_by (fallible_call.QueueGenericWorkItem r a) none =
-      routine_by r (generic c.head (fallible cs (fallible_call.QueueGenericWorkItem r a)) k r.name none)
+      routine_by r (generic c.head (fallible (numbered cs (fallible_call.QueueGenericWorkItem r a))) k r.name none)
   fallible_by _ none = refl
 
   return_by : (from : Head) (st : Option Status) → is_started_by_status (head_place from) st (head_place c.head) ≡ false →

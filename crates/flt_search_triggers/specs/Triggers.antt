@@ -10,6 +10,7 @@ use Rattle.flt_rules.specs.declared.place.Place.TheVariants as place
 use Rattle.flt_tree.specs.declared.filter.Status.{Status}
 use Rattle.flt_tree.specs.declared.filter.Status.TheVariants as status
 use Rattle.flt_graph.specs.Graph.{place_at}
+use Rattle.flt_graph.specs.Instruction.{roles}
 use Rattle.flt_graph.specs.declared.graph.CallbackGraph.{CallbackGraph}
 use Rattle.flt_graph.specs.declared.graph.Graph.{Graph}
 use Rattle.flt_graph.specs.declared.graph.Point.{Point}
@@ -52,7 +53,7 @@ is_started_by_status _ st _ = false
 
 -- what is done at a point of a callback at the first place starts the callback of a number, at the second
 abbrev pub is_started_by : Place → Instruction → ℕ → Place → Bool
-is_started_by from (instruction.Call c granted failed) n p = is_started_to c.call c n p
+is_started_by from (instruction.Call c granted failed) n p = is_started_to (roles c).call (roles c) n p
 is_started_by from (instruction.Return st) n p = is_started_by_status from st p
 is_started_by from _ n p = false
 

@@ -54,7 +54,7 @@ pub fn is_started_by(from: Place, instruction: &Instruction, number: usize, plac
     ensures { result ≡ spec.is_started_by from instruction.now number place }
 {
     match instruction {
-        Instruction::Call(call, _, _) => is_started_to(call, number, place),
+        Instruction::Call(call, _, _) => is_started_to(&call.roles(), number, place),
         Instruction::Return(status) => is_started_by_status(from, *status, place),
         _ => false,
     }

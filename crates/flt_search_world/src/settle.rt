@@ -3,37 +3,11 @@
 use crate::frames::Frame;
 use crate::world::{NO_VISIT, Visit, Whereabouts, World};
 use flt_graph::{Invocation, OperationVariable, Status};
-use flt_model::Violation;
+use flt_model::{Violation, Way};
 use flt_rules::{Mode, Place, Possessed, Possession, Stage, StatusRow, StatusWord, status_row};
 use flt_search_activation::{NOBODY, VariableValue};
 use flt_search_plan::Plan;
 use flt_tree::named_context;
-
-/// Where a status leads an operation.
-#[derive(Clone, Copy)]
-enum Way {
-    Passes,
-    Frames,
-    Rises,
-    Stays,
-}
-
-fn way_before(has_post: bool, returned: bool, status: Option<Status>) -> Way {
-    match status {
-        Some(Status::WithCallback(_) | Status::Synchronize(_)) if has_post => Way::Frames,
-        Some(Status::Complete(_)) => Way::Rises,
-        Some(Status::Pending) if returned => Way::Stays,
-        Some(Status::DisallowFastIo) if returned => Way::Rises,
-        _ => Way::Passes,
-    }
-}
-
-fn way_after(returned: bool, status: Option<Status>) -> Way {
-    match status {
-        Some(Status::MoreProcessingRequired) if returned => Way::Stays,
-        _ => Way::Rises,
-    }
-}
 
 // ---- statuses
 
@@ -111,9 +85,9 @@ impl World {
             Stage::Pre => {
                 let kind = self.operation(visit.operation).kind;
                 let has_post = plan.has_callback(visit.filter, Place::Post(kind));
-                way_before(has_post, returned, status)
+                Way::before(has_post, returned, status)
             }
-            Stage::Post => way_after(returned, status),
+            Stage::Post => Way::after(returned, status),
         }
     }
 
@@ -149,7 +123,7 @@ impl World {
                     }
                 }
             }
-            Way::Rises => self.put_at(visit.operation, Whereabouts::Up),
+            Way::Ends(_) | Way::Rises => self.put_at(visit.operation, Whereabouts::Up),
             Way::Stays => {}
         }
     }

@@ -620,7 +620,7 @@ impl World {
         match instruction {
             Instruction::Act(action, next) => self.act(a, *action, *next),
             Instruction::Call(call, yes, no) => {
-                return self.call(plan, a, call, *yes, *no, grant);
+                return self.call(plan, a, &call.roles(), *yes, *no, grant);
             }
             Instruction::Test(_, yes, no) => self.test_packet(a, *yes, *no),
             Instruction::Repeat(_, _, _) => return Course::Stuck,
@@ -672,7 +672,7 @@ impl World {
 fn is_choice(instruction: &Instruction) -> bool {
     match instruction {
         Instruction::Call(call, _, _) => matches!(
-            call.call,
+            call.roles().call,
             Call::AllocateContext | Call::QueueDeferredIoWorkItem | Call::QueueGenericWorkItem
         ),
         _ => false,
@@ -702,7 +702,7 @@ impl World {
         let activation = self.activation(a);
         let filter = activation.filter;
         match plan.instruction(filter, activation.callback, activation.point) {
-            Instruction::Call(call, _, _) => plan.is_watched(filter, call.call),
+            Instruction::Call(call, _, _) => plan.is_watched(filter, call.roles().call),
             Instruction::Act(Action::ReadValue(_, context) | Action::WriteValue(context, _), _) => {
                 plan.sees_values(filter) && self.is_shared(a, *context)
             }

@@ -4,7 +4,7 @@ use crate::faults::{put_kind, put_rest};
 use crate::members::{add_line, put_text};
 use crate::places::{Document, region_of as region_of_part};
 use flt_explain::Finding;
-use flt_explain_details::{Detail, Maker, Marks, RuleName, Words, details};
+use flt_explain_details::{Detail, Maker, Marks, Words, details};
 use flt_graph::Graph;
 use flt_places::Region;
 use flt_server_outline::Part;
@@ -73,10 +73,8 @@ fn put_origin(
     writer.end_array()
 }
 
-fn put_rule(alloc: Global, writer: &mut Writer, finding: &Finding) -> Result<(), AllocError> {
-    let rule = RuleName(finding.rule);
-    let name = format!(in alloc; "{rule}")?;
-    put_kind(writer, 1, name.as_str())
+fn put_rule(writer: &mut Writer, finding: &Finding) -> Result<(), AllocError> {
+    put_kind(writer, 1, finding.rule.name())
 }
 
 fn put_finding(
@@ -88,7 +86,7 @@ fn put_finding(
     let message = message_of(alloc, &detail.words)?;
     writer.begin_object()?;
     document.put_region(writer, "range", region_of(&detail.marks))?;
-    put_rule(alloc, writer, &detail.finding)?;
+    put_rule(writer, &detail.finding)?;
     put_text(alloc, writer, "message", message.as_slice())?;
     put_origin(alloc, writer, document, &detail.route.origin)?;
     writer.end_object()

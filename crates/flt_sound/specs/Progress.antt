@@ -15,7 +15,8 @@ use Rattle.flt_model.specs.Moves.{is_done}
 use Rattle.flt_model.specs.Program.{HasDistinctAltitudes, filter_of}
 use Rattle.flt_model.specs.Runs.{Moment, run, run_from, next}
 use Rattle.flt_model.specs.Steps.{Transition, Make, Local, Board}
-use Rattle.flt_model.specs.World.{Detached, activation_at, presence_at}
+use Rattle.flt_model.specs.declared.parts.Presence.TheVariants.{Detached}
+use Rattle.flt_model.specs.World.{activation_at, presence_at}
 use Rattle.flt_order.specs.Order.{TakesInOrder}
 use Rattle.flt_sound.specs.Rest.{IsGone}
 use Rattle.flt_sound.specs.Soundness.{IsAccepted}

@@ -4,7 +4,8 @@ use Rattle.flt_tree.specs.declared.filter.Filter.{Filter}
 use Rattle.flt_model.specs.Moves.{is_drained}
 use Rattle.flt_model.specs.Runs.{Moment, run, run_from}
 use Rattle.flt_model.specs.Steps.{Transition}
-use Rattle.flt_model.specs.World.{World, Detached, presence_at, holders_at, visit_at, context_at, is_settled, is_freed}
+use Rattle.flt_model.specs.declared.parts.Presence.TheVariants.{Detached}
+use Rattle.flt_model.specs.World.{World, presence_at, holders_at, visit_at, context_at, is_settled, is_freed}
 use Rattle.flt_sound.specs.Soundness.{AreAccepted}
 
 -- nothing of a filter is left in the world

@@ -9,6 +9,7 @@ use Rattle.flt_rules.specs.declared.held.HeldLock.{HeldLock}
 use Rattle.flt_rules.specs.declared.place.Operation.TheVariants.{Read, Write}
 use Rattle.flt_rules.specs.declared.place.Place.TheVariants as place
 use Rattle.flt_rules.specs.declared.status.FinalStatus.TheVariants as final
+use Rattle.flt_tree.specs.Registered.{numbered}
 use Rattle.flt_tree.specs.declared.filter.Callback.{Callback}
 use Rattle.flt_tree.specs.declared.filter.FallibleCall.{FallibleCall}
 use Rattle.flt_tree.specs.declared.filter.FallibleCall.TheVariants as fallible
@@ -16,6 +17,7 @@ use Rattle.flt_tree.specs.declared.filter.Filter.{Filter}
 use Rattle.flt_tree.specs.declared.filter.Head.TheVariants as head
 use Rattle.flt_tree.specs.declared.filter.PlainCall.{PlainCall}
 use Rattle.flt_tree.specs.declared.filter.PlainCall.TheVariants as plain
+use Rattle.flt_tree.specs.declared.filter.Routine.{Routine}
 use Rattle.flt_tree.specs.declared.filter.Status.{Status}
 use Rattle.flt_tree.specs.declared.filter.Status.TheVariants as status
 use Rattle.flt_tree.specs.declared.filter.Test.{Test}
@@ -26,11 +28,11 @@ use Rattle.flt_tree.specs.declared.variable.RemovedVariable.TheVariants.{O0}
 use Rattle.flt_model.specs.WorkedParts.{call, return, if_call, if_test, release_if, corner, here, on, routine, cleans_up}
 use Rattle.flt_abs.specs.Sets.{ModeSet, DrainingSet, statuses, either_mode, either_draining, irp_alone, fast_alone, no_alone, yes_alone}
 use Rattle.flt_abs.specs.State.{State}
-use Rattle.flt_graph.specs.Instruction as graph
 use Rattle.flt_graph.specs.declared.graph.Graph.{Graph}
 use Rattle.flt_graph.specs.declared.graph.Point.{Point}
 use Rattle.flt_graph.specs.declared.instruction.Instruction.{Instruction}
 use Rattle.flt_graph.specs.declared.instruction.Instruction.TheVariants as instruction
+use Rattle.flt_graph.specs.declared.instruction.ResolvedCall.TheVariants as resolved
 use Rattle.flt_cert.specs.Format.{Certificate}
 
 -- ---- the filter
@@ -81,11 +83,11 @@ worked = record {
 abbrev pub point : Instruction → Point
 point i = record { span = here; instruction = i }
 
-abbrev pub asks : FallibleCall → ℕ → ℕ → Point
-asks c granted refused = point (instruction.Call (graph.fallible worked.callbacks c) granted refused)
+abbrev pub asks : FallibleCall Routine → ℕ → ℕ → Point
+asks c granted refused = point (instruction.Call (resolved.Fallible (numbered worked.callbacks c)) granted refused)
 
 abbrev pub does : PlainCall → ℕ → Point
-does c next = point (instruction.Call (graph.plain c) next next)
+does c next = point (instruction.Call (resolved.Plain c) next next)
 
 abbrev pub tests : Test → ℕ → ℕ → Point
 tests t holds fails = point (instruction.Test t holds fails)

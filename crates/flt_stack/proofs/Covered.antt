@@ -13,7 +13,7 @@ use Rattle.flt_graph.specs.declared.graph.Graph.{Graph}
 use Rattle.flt_cert.specs.declared.cert.Cert.{Cert}
 use Rattle.flt_check.specs.Accepting.{CertCovers, IsCertFault, full_of}
 use Rattle.flt_check.specs.Covering.{Covers}
-use Rattle.flt_check.specs.declared.checker.Refusal.{Refusal}
+use Rattle.flt_rules.specs.declared.refusal.Refusal.{Refusal}
 use Rattle.flt_machine_frames.specs.Loading.{AreGraphsOfFilters}
 use Rattle.flt_sound.specs.Progress.{AreOrderly, IsOrderly}
 use Rattle.flt_sound.specs.Soundness.{IsAccepted, AreAccepted}

@@ -12,7 +12,7 @@ use Rattle.flt_tree.specs.declared.tree.Tree.{Tree}
 use Rattle.flt_syntax.specs.Spelling.{Spells}
 use Rattle.flt_graph.specs.declared.graph.Graph.{Graph}
 use Rattle.flt_cert.specs.declared.cert.Cert.{Cert}
-use Rattle.flt_check.specs.declared.checker.Refusal.{Refusal}
+use Rattle.flt_rules.specs.declared.refusal.Refusal.{Refusal}
 use Rattle.flt_machine_frames.specs.Loading.{AreGraphsOfFilters}
 use Rattle.flt_model.specs.Program.{filters_of}
 use Rattle.flt_stack.specs.Loading.{File, IsAcceptedFile, AreAcceptedFiles, AreReadFiles, CannotRead}

@@ -12,7 +12,7 @@ use Rattle.flt_cert.specs.declared.cert.Cert.{Cert}
 use Rattle.flt_cert.specs.declared.fault.CertFault.{CertFault}
 use Rattle.flt_cert.specs.declared.fault.CertFault.TheVariants as cert
 use Rattle.flt_check.specs.Accepting.{CertCovers, IsCertFault}
-use Rattle.flt_check.specs.declared.checker.Refusal.{Refusal}
+use Rattle.flt_rules.specs.declared.refusal.Refusal.{Refusal}
 use Rattle.flt_model.specs.Program.{HasDistinctAltitudes, IsRepeated, by_altitude}
 use Rattle.flt_stack.specs.declared.fault.LoadFault.{LoadFault}
 use Rattle.flt_stack.specs.declared.fault.LoadFault.TheVariants as fault

@@ -1,7 +1,7 @@
 //! Why filters aren't loaded.
 
 use flt_cert::CertFault;
-use flt_check::Refusal;
+use flt_rules::Refusal;
 use flt_syntax::SyntaxFault;
 use std::alloc::{AllocError, AllocFailed};
 use thiserror::Error;

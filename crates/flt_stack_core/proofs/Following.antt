@@ -4,7 +4,8 @@ use Rattle.std.proofs.Common.{if◌then◌else◌, IfSome, length, inl, inr, ref
 use Rattle.flt_machine_dispatch.specs.Turns.{ComesAfterEntries, ComesAfterFrames, ComesNext, ComesNextIn, ComesNextOf, is_enabled, next_of}
 use Rattle.flt_machine.specs.Calls.{IsFullFor, is_arrival}
 use Rattle.flt_machine.specs.Situations.{Situation}
-use Rattle.flt_model.specs.World.{World, Entry}
+use Rattle.flt_model.specs.declared.parts.Entry.{Entry}
+use Rattle.flt_model.specs.World.{World}
 use Rattle.flt_model.specs.declared.moves.Move.{Move}
 use Rattle.flt_model.specs.declared.moves.Move.TheVariants.{Arrive, Pre, Skip, Lower, Post, Cancel, Canceled}
 use Rattle.flt_model.specs.declared.moves.Move.TheVariants.{Work, Detach, Drain, Unlink, Detached}

@@ -60,7 +60,7 @@ fn leaves_choice(loaded: &Loaded, advanced: &Advanced) -> bool
     );
     match instruction {
         Instruction::Call(made, _, _) => matches!(
-            made.call,
+            made.roles().call,
             Call::AllocateContext | Call::QueueDeferredIoWorkItem | Call::QueueGenericWorkItem
         ),
         _ => false,

@@ -7,7 +7,7 @@ use Rattle.flt_stack_crew.specs.declared.ending.Ending.{Ending}
 use Rattle.flt_stack_crew.specs.declared.ending.Ending.TheVariants.{Whole, Full, Already, Differ}
 use Rattle.flt_stack_crew.specs.declared.running.Ran.{Ran}
 use Rattle.flt_stack_prepare.specs.Preparing.{Fails, IsScript}
-use Rattle.flt_stack_prepare.specs.Texts.{AreSpelled, HaveCertificates}
+use Rattle.flt_stack_prepare.specs.Texts.{HaveCertificates}
 use Rattle.flt_stack_prepare.specs.declared.fault.RunFault.{RunFault}
 use Rattle.flt_model.specs.Expansion.{IsCleanRun, verdict}
 use Rattle.flt_model.specs.JournalText as journal
@@ -22,6 +22,7 @@ use Rattle.flt_stack_receipts.specs.Receipts.{receipts_in}
 use Rattle.flt_stack_prepare.specs.ScriptText.{Commands}
 use Rattle.flt_stack_prepare.specs.declared.command.Command.TheVariants.{Detach}
 use Rattle.flt_stack.specs.Loading.{IsCount}
+use Rattle.flt_syntax.specs.Texts.{AreSpelled}
 use Rattle.flt_tree.specs.declared.filter.Filter.{Filter}
 
 -- ---- the stack

@@ -12,17 +12,18 @@ use Rattle.flt_cert.specs.Spelling.{is_cert}
 use Rattle.flt_cert.specs.declared.cert.Cert.{Cert}
 use Rattle.flt_check.specs.Accepting.{CertCovers, full_of}
 use Rattle.flt_check.specs.Covering.{Covers}
-use Rattle.flt_check.specs.declared.checker.Refusal.{Refusal}
 use Rattle.flt_stack_prepare.specs.Certified.{IsFirstErr, IsGiven, StopsAt}
-use Rattle.flt_stack_prepare.specs.Texts.{AreSpelled, FiltersFail, HaveCertificates, IsFirstRefused, IsRefused}
+use Rattle.flt_stack_prepare.specs.Texts.{FiltersFail, HaveCertificates, IsFirstRefused, IsRefused}
 use Rattle.flt_stack_prepare.specs.declared.fault.RunFault.{RunFault}
 use Rattle.flt_stack_prepare.specs.declared.fault.RunFault.TheVariants as fault
 use Rattle.flt_machine_frames.specs.Loading.{AreGraphsOfFilters}
+use Rattle.flt_rules.specs.declared.refusal.Refusal.{Refusal}
 use Rattle.flt_graph.specs.Lowering.{IsLowered}
 use Rattle.flt_graph.specs.declared.graph.Graph.{Graph}
 use Rattle.flt_model.specs.Streams.{Text}
 use Rattle.flt_stack.specs.Lowered.{AreCertificates, AreCovered}
 use Rattle.flt_syntax.specs.Spelling.{Spells}
+use Rattle.flt_syntax.specs.Texts.{AreSpelled}
 use Rattle.flt_tree.specs.WellFormed.{IsWellFormed}
 use Rattle.flt_tree.specs.declared.filter.Filter.{Filter}
 

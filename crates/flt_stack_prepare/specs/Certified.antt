@@ -4,7 +4,7 @@ use Rattle.std.specs.List.{AllZip}
 use Rattle.flt_cert.specs.Format.{Certificate, is_certificate}
 use Rattle.flt_cert.specs.declared.cert.Cert.{Cert}
 use Rattle.flt_cert.specs.declared.cert.Cert.TheVariants.{Full}
-use Rattle.flt_check.specs.declared.checker.Refusal.{Refusal}
+use Rattle.flt_rules.specs.declared.refusal.Refusal.{Refusal}
 use Rattle.flt_stack_prepare.specs.declared.fault.RunFault.{RunFault}
 use Rattle.flt_stack_prepare.specs.declared.fault.RunFault.TheVariants as fault
 

@@ -1,12 +1,13 @@
 -- What a script and some texts come to before anything is run. This project's own program.
 use Rattle.std.specs.Prelude.{◌≡◌, ◌⊎◌, ◌<◌, List, length, Result, Ok, Err, Some, IsTrue}
-use Rattle.flt_stack_prepare.specs.Texts.{AreSpelled, IsSyntaxFault, HaveCertificates, IsFirstRefused}
+use Rattle.flt_stack_prepare.specs.Texts.{HaveCertificates, IsFirstRefused}
 use Rattle.flt_stack_prepare.specs.declared.fault.RunFault.{RunFault}
 use Rattle.flt_stack_prepare.specs.declared.fault.RunFault.TheVariants as fault
 use Rattle.flt_model.specs.Program.{HasDistinctAltitudes, IsRepeated, by_altitude}
 use Rattle.flt_model.specs.Streams.{Text}
 use Rattle.flt_stack_prepare.specs.ScriptText.{Commands, IsFirstFault, is_script, spelling}
 use Rattle.flt_stack.specs.Loading.{IsCount, max_files}
+use Rattle.flt_syntax.specs.Texts.{AreSpelled, IsSyntaxFault}
 use Rattle.flt_tree.specs.declared.filter.Filter.{Filter}
 
 -- ---- the script

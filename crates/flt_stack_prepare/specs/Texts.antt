@@ -1,41 +1,25 @@
--- Texts, the filters that they spell, and the certificates of these. This project's own program.
+-- Certificates of the filters that texts spell. This project's own program.
 use Rattle.std.specs.Prelude.{◌≡◌, ℕ, List, ◌∷◌, ◌++◌, length, IsTrue}
 use Rattle.std.specs.List.{AllZip}
 use Rattle.flt_analyse.specs.Least.{NoneCovers, IsNamed}
 use Rattle.flt_cert.specs.Format.{Certificate, is_certificate, full_spelling}
 use Rattle.flt_check.specs.Covering.{Covers}
-use Rattle.flt_check.specs.declared.checker.Refusal.{Refusal}
+use Rattle.flt_rules.specs.declared.refusal.Refusal.{Refusal}
 use Rattle.flt_stack_prepare.specs.declared.fault.RunFault.{RunFault}
 use Rattle.flt_stack_prepare.specs.declared.fault.RunFault.TheVariants as fault
 use Rattle.flt_graph.specs.Lowering.{IsLowered}
 use Rattle.flt_graph.specs.declared.graph.Graph.{Graph}
 use Rattle.flt_model.specs.Streams.{Text}
-use Rattle.flt_syntax.specs.Spelling.{Spells}
-use Rattle.flt_syntax.specs.TextFails.{Fails}
-use Rattle.flt_syntax.specs.declared.fault.SyntaxFault.{SyntaxFault}
+use Rattle.flt_syntax.specs.declared.texts.TextsFault.{TextsFault}
+use Rattle.flt_syntax.specs.declared.texts.TextsFault.TheVariants as unread
 use Rattle.flt_tree.specs.declared.filter.Filter.{Filter}
 
 -- ---- texts
 
-abbrev pub AreSpelled : List Text → List Filter → Type 0
-AreSpelled = AllZip Spells
-
--- the first text with a fault, by its number, and its fault
-pub record IsSyntaxFault (texts : List Text) (number : ℕ) (f : SyntaxFault) : Type 0 where
-  pub before : List Text
-  pub text : Text
-  pub after : List Text
-  pub parts : texts ≡ before ++ text ∷ after
-  pub filters : List Filter
-  pub spelled : AreSpelled before filters
-  pub counted : number ≡ length before
-  pub fault : Fails text f
-
--- memory ran out, or the texts have this fault
-abbrev pub TextsFail : List Text → RunFault → Type 0
-TextsFail texts fault.OutOfMemory = Unit {0}
-TextsFail texts (fault.Syntax number f) = IsSyntaxFault texts number f
-TextsFail texts _ = ⊥
+-- how a fault of a text is told
+abbrev pub of_texts : TextsFault → RunFault
+of_texts (unread.Syntax number f) = fault.Syntax number f
+of_texts unread.OutOfMemory = fault.OutOfMemory
 
 -- ---- certificates
 

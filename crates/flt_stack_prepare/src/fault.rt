@@ -1,7 +1,7 @@
 //! Why a script wasn't driven.
 
-use flt_check::Refusal;
-use flt_syntax::SyntaxFault;
+use flt_rules::Refusal;
+use flt_syntax::{SyntaxFault, TextsFault};
 use std::alloc::{AllocError, AllocFailed};
 use thiserror::Error;
 
@@ -46,5 +46,22 @@ impl<T: Drop> From<AllocFailed<T>> for RunFault {
 
     fn from(_e: AllocFailed<T>) -> RunFault {
         RunFault::OutOfMemory
+    }
+}
+
+impl From<TextsFault> for RunFault {
+    ghost use Rattle.std.specs.Prelude.{◌≡◌};
+    ghost use Rattle.flt_stack_prepare.specs.Texts.{of_texts};
+
+    ghost from_gives = { λ f e. e ≡ of_texts f };
+
+    fn from(fault: TextsFault) -> RunFault {
+        match fault {
+            TextsFault::Syntax { number, fault } => RunFault::Syntax {
+                file: number,
+                fault,
+            },
+            TextsFault::OutOfMemory => RunFault::OutOfMemory,
+        }
     }
 }

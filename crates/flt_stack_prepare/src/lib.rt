@@ -14,8 +14,6 @@ mod reader;
 mod rules;
 mod script;
 mod script_fault;
-mod texts;
-mod written;
 
 pub use command::Command;
 pub use fault::RunFault;
@@ -23,4 +21,3 @@ pub use preparing::{PreparedRun, prepare};
 pub use reader::read;
 pub use script::Script;
 pub use script_fault::ScriptFault;
-pub use written::journal_bytes;

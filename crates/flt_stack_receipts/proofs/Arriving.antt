@@ -24,6 +24,7 @@ use Rattle.flt_tree.specs.declared.filter.FallibleCall.TheVariants as fallible
 use Rattle.flt_tree.specs.declared.filter.Filter.{Filter}
 use Rattle.flt_tree.specs.declared.filter.PlainCall.{PlainCall}
 use Rattle.flt_tree.specs.declared.filter.PlainCall.TheVariants as plain
+use Rattle.flt_tree.specs.declared.filter.Routine.{Routine}
 use Rattle.flt_tree.specs.declared.filter.Statement.{Statement, out-Statement}
 use Rattle.flt_tree.specs.declared.filter.Statement.TheOpen.{Statement-F}
 use Rattle.flt_tree.specs.declared.filter.Status.{Status}
@@ -56,12 +57,19 @@ use Rattle.flt_model.specs.Reads.{put_value, read_value, write_value, read_file,
 use Rattle.flt_model.specs.Reads.{read_value_of, write_value_of, read_file_of, test_irp_of}
 use Rattle.flt_model.specs.Returns.{returned, returns}
 use Rattle.flt_model.specs.Runs.{Moment, after, next, run_from, start}
-use Rattle.flt_model.specs.Settling.{Way, way_of, is_led, lead, settles_visit, settled_by}
+use Rattle.flt_model.specs.declared.settling.Way.{Way}
+use Rattle.flt_model.specs.Settling.{way_of, is_led, lead, settles_visit, settled_by}
 use Rattle.flt_model.specs.Steps.{Transition, Make, Local, Board, may_go, act_step, plain_step, fallible_step}
 use Rattle.flt_model.specs.Steps.{test_step, if_step, statement_step, list_step, board, moved_on, local}
 use Rattle.flt_model.specs.Variables.{context_in, operation_in, named_in, atom_value}
-use Rattle.flt_model.specs.World.{World, Store, Activation, Arrival, Entry, Frame, Item, Link, Position, Down, Visiting}
-use Rattle.flt_model.specs.World.{Up, Route, activation_at, actor_at, arrival_at, arrival_of, context_at, is_attached}
+use Rattle.flt_model.specs.declared.parts.Arrival.{Arrival}
+use Rattle.flt_model.specs.declared.parts.Entry.{Entry}
+use Rattle.flt_model.specs.declared.parts.Item.{Item}
+use Rattle.flt_model.specs.declared.parts.Link.{Link}
+use Rattle.flt_model.specs.declared.parts.Position.{Position}
+use Rattle.flt_model.specs.declared.parts.Position.TheVariants.{Down, Visiting, Up}
+use Rattle.flt_model.specs.World.{World, Store, Activation, Frame}
+use Rattle.flt_model.specs.World.{Route, activation_at, actor_at, arrival_at, arrival_of, context_at, is_attached}
 use Rattle.flt_model.specs.World.{is_detaching, is_freed, item_at, linked_at, presence_at, queue_at, route_at}
 use Rattle.flt_stack_receipts.specs.Receipts.{is_arrival}
 
@@ -236,7 +244,7 @@ module _ (w : World) (a : ℕ) where
     queue_to routine grant (Some (Some x)) = if_to grant _ _ refl refl
     queue_to routine grant None = if_to grant _ _ refl refl
 
-    fallible_to : (p : List Filter) (t : List Event) (grant : Bool) (c : FallibleCall) →
+    fallible_to : (p : List Filter) (t : List Event) (grant : Bool) (c : FallibleCall Routine) →
         To (fallible_step p t w a grant granted refused c)
     fallible_to p t grant (fallible.AllocateContext d) = allocate_to d grant
     fallible_to p t grant (fallible.GetContext on d) = get_by_to d (link_of w.store own_filter on (operation_in here Data))

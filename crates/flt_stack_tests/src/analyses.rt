@@ -3,9 +3,8 @@ ghost use Rattle.std.specs.Prelude.{◌≤◌};
 
 use flt_analyse::{Start, analyse_all};
 use flt_cert::{FullCert, write_full};
-use flt_check::Refusal;
 use flt_graph::{Graph, lower};
-use flt_rules::number;
+use flt_rules::{Refusal, number};
 use flt_syntax::parse;
 use std::alloc::Global;
 use std::sync::atomic::{AtomicBool, AtomicUsize, Ordering};

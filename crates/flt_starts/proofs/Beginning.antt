@@ -15,7 +15,11 @@ use Rattle.flt_model.specs.Moves.{is_entry_of, canceled_by, work_of, work_by, is
 use Rattle.flt_model.specs.Program.{callbacks_at, filter_of, is_canceled}
 use Rattle.flt_model.specs.Runs.{Moment, next}
 use Rattle.flt_model.specs.Steps.{Transition, Make, Local, Board, board, local}
-use Rattle.flt_model.specs.World.{World, Activation, Entry, Frame, Item, Position, Down, Visiting, Up, Route, arrival_at}
+use Rattle.flt_model.specs.declared.parts.Entry.{Entry}
+use Rattle.flt_model.specs.declared.parts.Item.{Item}
+use Rattle.flt_model.specs.declared.parts.Position.{Position}
+use Rattle.flt_model.specs.declared.parts.Position.TheVariants.{Down, Visiting, Up}
+use Rattle.flt_model.specs.World.{World, Activation, Frame, Route, arrival_at}
 use Rattle.flt_model.specs.World.{is_attached, is_detaching, item_at, linked_at, presence_at, queue_at, route_at}
 use Rattle.flt_starts.specs.Starts.{Callee, Starts, callee, pre_callee, post_callee, item_callee, started_by, starts_callback}
 use Rattle.flt_starts.proofs.Found.{body_found}

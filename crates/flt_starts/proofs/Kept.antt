@@ -11,7 +11,10 @@ use Rattle.flt_tree.specs.declared.filter.Callback.{Callback}
 use Rattle.flt_tree.specs.declared.filter.Filter.{Filter}
 use Rattle.flt_tree.specs.declared.filter.Statement.{Statement}
 use Rattle.flt_model.specs.Program.{callbacks_at, place_at}
-use Rattle.flt_model.specs.World.{World, Store, Actor, Activation, Arrival, Entry, Frame, Item, Route}
+use Rattle.flt_model.specs.declared.parts.Arrival.{Arrival}
+use Rattle.flt_model.specs.declared.parts.Entry.{Entry}
+use Rattle.flt_model.specs.declared.parts.Item.{Item}
+use Rattle.flt_model.specs.World.{World, Store, Actor, Activation, Frame, Route}
 use Rattle.flt_model.specs.World.{Visit, activation_at, actor_at, no_arrival, no_route, no_visit}
 use Rattle.flt_starts.specs.Closed.{IsClosed, canceled_number, post_number, body_within}
 use Rattle.flt_starts.proofs.Lists.{Grows}

@@ -48,7 +48,9 @@ use Rattle.flt_model.specs.Returns.{there, returned, returns}
 use Rattle.flt_model.specs.Settling.{way_of}
 use Rattle.flt_model.specs.Steps.{plain_step, fallible_step}
 use Rattle.flt_model.specs.Variables.{context_in, operation_in, named_in, with_old, atom_value}
-use Rattle.flt_model.specs.World.{World, Store, Activation, Actor, Entry, Link, activation_at, actor_at, arrival_of, context_at}
+use Rattle.flt_model.specs.declared.parts.Entry.{Entry}
+use Rattle.flt_model.specs.declared.parts.Link.{Link}
+use Rattle.flt_model.specs.World.{World, Store, Activation, Actor, activation_at, actor_at, arrival_of, context_at}
 use Rattle.flt_model.specs.World.{is_attached, is_freed, linked_at, nobody, presence_at, queue_at, visit_at}
 use Rattle.flt_starts.specs.Closed.{canceled_number, body_within, status_within, return_within, plain_within, fallible_within}
 use Rattle.flt_starts.proofs.Found.{routine_elsewhere}
@@ -339,7 +341,7 @@ module _ (q : Setting) (w : World) (k : Kept q w) (a : ℕ) where
         subst (λ (n : ℕ). q.may_start (routine_of (callbacks_at q.filters n) c) ≡ true) (sym own) (m own)
 
     -- a call that can fail
-    pub fallible_to : (t : List Event) (grant : Bool) (c : FallibleCall) →
+    pub fallible_to : (t : List Event) (grant : Bool) (c : FallibleCall Routine) →
         (own_filter ≡ q.own → fallible_within (callbacks q) q.may_start c ≡ true) →
         To (fallible_step q.filters t w a grant granted refused c)
     fallible_to t grant (fallible.AllocateContext d) m = allocate_to d grant

@@ -29,7 +29,13 @@ use Rattle.flt_model.specs.Moves.{post_at, fits_mode, is_done, is_entry_of, othe
 use Rattle.flt_model.specs.Moves.{other_frames, drain_by, unlink_by, is_drained, with_arrival, with_visit, make}
 use Rattle.flt_model.specs.Program.{callbacks_at, filter_of, is_canceled, body_for, body_at, place_at}
 use Rattle.flt_model.specs.Variables.{starting}
-use Rattle.flt_model.specs.World.{World, Store, Activation, Actor, Arrival, Entry, Frame, Item, Position, Down, Visiting, Up, Presence}
+use Rattle.flt_model.specs.declared.parts.Arrival.{Arrival}
+use Rattle.flt_model.specs.declared.parts.Entry.{Entry}
+use Rattle.flt_model.specs.declared.parts.Item.{Item}
+use Rattle.flt_model.specs.declared.parts.Position.{Position}
+use Rattle.flt_model.specs.declared.parts.Position.TheVariants.{Down, Visiting, Up}
+use Rattle.flt_model.specs.declared.parts.Presence.{Presence}
+use Rattle.flt_model.specs.World.{World, Store, Activation, Actor, Frame}
 use Rattle.flt_model.specs.World.{Route, Visit, activation_at, actor_at, arrival_at, is_attached, is_detaching, item_at, linked_at}
 use Rattle.flt_model.specs.World.{no_actor, no_arrival, no_route, no_visit, nobody, presence_at, queue_at, route_at}
 use Rattle.flt_starts.specs.Closed.{number_for, pre_number, body_within}

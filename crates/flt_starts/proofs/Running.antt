@@ -17,7 +17,11 @@ use Rattle.flt_model.specs.Moves.{calls_pre, pre_at, last_frame, pre_of, is_fram
 use Rattle.flt_model.specs.Program.{callbacks_at, filter_of, is_canceled}
 use Rattle.flt_model.specs.Runs.{Moment, start, after, next, run, run_from}
 use Rattle.flt_model.specs.Steps.{Transition, Make, Local, Board}
-use Rattle.flt_model.specs.World.{World, Entry, Frame, Item, Position, Down, Visiting, Up, arrival_at, is_detaching}
+use Rattle.flt_model.specs.declared.parts.Entry.{Entry}
+use Rattle.flt_model.specs.declared.parts.Item.{Item}
+use Rattle.flt_model.specs.declared.parts.Position.{Position}
+use Rattle.flt_model.specs.declared.parts.Position.TheVariants.{Down, Visiting, Up}
+use Rattle.flt_model.specs.World.{World, Frame, arrival_at, is_detaching}
 use Rattle.flt_model.specs.World.{item_at, no_arrival, opening, presence_at, queue_at, route_at}
 use Rattle.flt_starts.specs.Closed.{IsClosed, number_for}
 use Rattle.flt_starts.specs.Starts.{Callee, callee, pre_callee, post_callee, item_callee, started_by, starts_callback, NeverStarts}

@@ -17,9 +17,14 @@ use Rattle.flt_tree.specs.declared.filter.Callback.{Callback}
 use Rattle.flt_tree.specs.declared.filter.Status.{Status}
 use Rattle.flt_tree.specs.declared.filter.Status.TheVariants as status
 use Rattle.flt_model.specs.Program.{callbacks_at}
-use Rattle.flt_model.specs.Settling.{Way, Passes, Frames, Ends, Rises, Stays, way_before, way_after, way_by}
+use Rattle.flt_model.specs.declared.settling.Way.{Way}
+use Rattle.flt_model.specs.declared.settling.Way.TheVariants.{Passes, Frames, Ends, Rises, Stays}
+use Rattle.flt_model.specs.Settling.{way_before, way_after, way_by}
 use Rattle.flt_model.specs.Settling.{asks_for_frame, settles_visit, led, is_led, lead, settled_by}
-use Rattle.flt_model.specs.World.{Store, Arrival, Entry, Item, Route, arrival_at, arrival_of, no_route}
+use Rattle.flt_model.specs.declared.parts.Arrival.{Arrival}
+use Rattle.flt_model.specs.declared.parts.Entry.{Entry}
+use Rattle.flt_model.specs.declared.parts.Item.{Item}
+use Rattle.flt_model.specs.World.{Store, Route, arrival_at, arrival_of, no_route}
 use Rattle.flt_model.specs.World.{queue_at, route_at, visit_at, with_queue, with_route}
 use Rattle.flt_starts.specs.Closed.{post_number, status_within, return_within}
 use Rattle.flt_starts.proofs.Kept.{Setting, callbacks, Framed, AreFramed, Waits, Queued, Holds}

@@ -17,6 +17,7 @@ use Rattle.flt_tree.specs.declared.filter.FallibleCall.TheVariants as fallible
 use Rattle.flt_tree.specs.declared.filter.Head.{Head}
 use Rattle.flt_tree.specs.declared.filter.PlainCall.{PlainCall}
 use Rattle.flt_tree.specs.declared.filter.PlainCall.TheVariants as plain
+use Rattle.flt_tree.specs.declared.filter.Routine.{Routine}
 use Rattle.flt_tree.specs.declared.filter.Statement.{Statement}
 use Rattle.flt_tree.specs.declared.filter.Statement.TheFolds.{fold-Statement}
 use Rattle.flt_tree.specs.declared.filter.Statement.TheOpen.{Statement-F}
@@ -61,7 +62,7 @@ module _ (cs : List Callback) (may_start : ℕ → Bool) where
   plain_within _ = true
 
   -- an entry of the queue asks for the callback of cancelled ones, and a work item for its routine
-  abbrev pub fallible_within : FallibleCall → Bool
+  abbrev pub fallible_within : FallibleCall Routine → Bool
   fallible_within (fallible.InsertIo c) = may_start (canceled_number cs)
   fallible_within (fallible.QueueDeferredIoWorkItem r c) = may_start (routine_of cs r)
   fallible_within (fallible.QueueGenericWorkItem r c) = may_start (routine_of cs r)

@@ -12,7 +12,10 @@ use Rattle.flt_model.specs.Moves.{is_frame_of, last_frame}
 use Rattle.flt_model.specs.Program.{callbacks_at, filter_of, is_canceled, body_at}
 use Rattle.flt_model.specs.Runs.{Moment, next, run}
 use Rattle.flt_model.specs.Steps.{Transition, Make}
-use Rattle.flt_model.specs.World.{World, Actor, Activation, Frame, Item, Position, Down, arrival_at, item_at, route_at}
+use Rattle.flt_model.specs.declared.parts.Item.{Item}
+use Rattle.flt_model.specs.declared.parts.Position.{Position}
+use Rattle.flt_model.specs.declared.parts.Position.TheVariants.{Down}
+use Rattle.flt_model.specs.World.{World, Actor, Activation, Frame, arrival_at, item_at, route_at}
 use Rattle.flt_starts.specs.Closed.{number_for}
 
 -- a callback of a filter, each by its number

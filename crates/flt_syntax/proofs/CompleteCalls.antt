@@ -1,5 +1,5 @@
 -- What is spelled and over is read: statuses and calls.
-use Rattle.std.proofs.Common.{◌≡◌, ◌≢◌, ◌≤◌, ◌<◌, Bool, true, false, length, Ok, refl, ap, ◌∙◌, rules, arith}
+use Rattle.std.proofs.Common.{◌≡◌, ◌≢◌, ◌≤◌, ◌<◌, Bool, true, false, List, length, Ok, refl, ap, ◌∙◌, rules, arith}
 use Rattle.std.specs.Prelude.{Option, Some, is_some, ◌||◌}
 use denote.Enum.Bare.{false_same}
 use Rattle.flt_rules.specs.declared.call.Existing.{Existing}
@@ -8,9 +8,10 @@ use Rattle.flt_rules.specs.declared.call.LockNumber.{LockNumber}
 use Rattle.flt_rules.specs.declared.status.FinalStatus.{FinalStatus}
 use Rattle.flt_tree.specs.contracts.variable.ContextVariable.{the_type}
 use Rattle.flt_syntax.specs.declared.shape.FallibleShape.{FallibleShape}
-use Rattle.flt_syntax.specs.declared.shape.FallibleShape.TheVariants as shapes
+use Rattle.flt_syntax.specs.declared.shape.Operands.{Operands}
 use Rattle.flt_syntax.specs.declared.shape.PlainShape.{PlainShape}
-use Rattle.flt_syntax.specs.declared.shape.QueueCall.{QueueCall}
+use Rattle.flt_syntax.specs.declared.shape.Slot.{Slot}
+use Rattle.flt_syntax.specs.declared.shape.Tail.{Tail}
 use Rattle.flt_syntax.specs.declared.token.Kind.{Kind}
 use Rattle.flt_syntax.specs.declared.token.Kind.TheVariants as k
 use Rattle.flt_tree.specs.declared.filter.Routine.{Routine}
@@ -23,22 +24,20 @@ use Rattle.flt_tree.specs.declared.variable.RemovedVariable.{RemovedVariable}
 use Rattle.flt_tree.specs.Names.{Text}
 use Rattle.flt_syntax.specs.Words as words
 use Rattle.flt_syntax.specs.CallGrammar as g
-use Rattle.flt_syntax.specs.CallGrammar.{StatusAt, OptionalStatusAt, RoutineAt, LockAt, FallibleAt, PlainAt}
+use Rattle.flt_syntax.specs.CallGrammar.{StatusAt, OptionalStatusAt, RoutineAt, LockAt, SlotAt, SlotsAt, TailAt, FallibleAt, PlainAt}
 use Rattle.flt_syntax.specs.Words.{Next, Meant, ContextAt, OptionalAt}
-use Rattle.flt_syntax.specs.Operand.{context_variable, removed_variable, removed_variable_of, operation_variable}
+use Rattle.flt_syntax.specs.Operand.{removed_variable, removed_variable_of, operation_variable}
 use Rattle.flt_syntax.specs.Operand.{operation_variable_of, same_context, other_context, with_context}
 use Rattle.flt_syntax.specs.Scope.{Scope, lock_named, routine}
-use Rattle.flt_syntax.specs.Shape.{lock_kind}
-use Rattle.flt_syntax.specs.Status.{final_status_of, final_status, bare_status_of, bare_status}
-use Rattle.flt_syntax.specs.Status.{status_by, status, has_more, begins_status, optional_status}
-use Rattle.flt_syntax.specs.Call.{existing_of, existing, old, other_old, obtain_context, set_context, delete_context_of}
-use Rattle.flt_syntax.specs.Call.{insert_io, remove_next_io, queue_by, queue_call, queue_deferred, queue_generic, fallible_by}
-use Rattle.flt_syntax.specs.Call.{fallible_call, end_context, reference_context, lock_call, complete_pre, complete_post}
-use Rattle.flt_syntax.specs.Call.{plain_by, plain_call, fallible_shape_of, plain_shape_of}
-use Rattle.flt_syntax.specs.Cursor.{Input, kind, refusal, refuse, unknown, expect, name, given}
+use Rattle.flt_syntax.specs.Status.{final_status_of, final_status, bare_status_of, bare_status, status_by, status, has_more, begins_status}
+use Rattle.flt_syntax.specs.Status.{optional_status}
+use Rattle.flt_syntax.specs.Call.{existing_of, existing, old, other_old, fallible_by, fallible_call, plain_by, plain_call}
+use Rattle.flt_syntax.specs.Call.{fallible_shape_of, plain_shape_of, slot, slots, tail, operands}
+use Rattle.flt_syntax.specs.Cursor.{Input, kind, refusal, refuse, unknown, name, given, ◌<$>◌, next}
+use Rattle.flt_syntax.specs.Shape.{unfilled, fallible_slots, fallible_tail, fallible_of, is_known}
 use Rattle.flt_syntax.proofs.TokenKinds.{none_some, not_seen}
 use Rattle.flt_syntax.specs.FirstWords.{begins_fallible, begins_plain}
-use Rattle.flt_syntax.specs.Over.{OptionalOver, StatusOver, OptionalStatusOver, FallibleOver, PlainOver}
+use Rattle.flt_syntax.specs.Over.{OptionalOver, StatusOver, OptionalStatusOver, FallibleOver, PlainOver, TailOver}
 use Rattle.flt_syntax.proofs.Complete.{then_again, kind_is, rest_is, left_is, means, some_of, expect_again, eat_again, eat_none}
 use Rattle.flt_syntax.proofs.Complete.{known_again, context_again, spelled_again, next_less, meant_less, name_less, optional_less}
 
@@ -140,45 +139,58 @@ pub lock_again : {scope : Scope} {lk : LockKind} {i o : Input} {l : LockNumber} 
 unfolding lock_named name
 lock_again (g.lock (words.name e) h) = rw e (rw h refl)
 
--- ---- calls
-
 -- KEEP_IF_EXISTS or REPLACE_IF_EXISTS: what is spelled and over is read
 pub existing_again : {i o : Input} {x : Existing} → Meant existing_of i x o → existing i ≡ Ok (x, o)
 unfolding existing
 existing_again {i = i} p = known_again (refusal i) p
 
--- the rule for the shape of a word, at that word
-pub fallible_at : {s : FallibleShape} {i j : Input} (scope : Scope) → Meant fallible_shape_of i s j →
-    fallible_call scope i ≡ fallible_by scope s i
-unfolding fallible_call
-fallible_at {i = i} scope n = ap (λ m. given m (fallible_by scope) refuse i) (means n)
+-- ---- slots
 
--- with a queue its call is read
-pub queue_at : {x : QueueCall} {i j : Input} (scope : Scope) → scope.queue ≡ true → Meant fallible_shape_of i (shapes.Queue x) j →
-    fallible_call scope i ≡ queue_by x i
-unfolding queue_call
-queue_at scope q n = fallible_at scope n ∙ rw q refl
+-- a slot: what is spelled is read
+pub slot_again : {scope : Scope} {s : Slot} {x y : Operands} {i o : Input} → SlotAt scope s x i y o → slot scope s x i ≡ Ok (y, o)
+slot_again (g.data_word n) = then_again _ (expect_again n) refl
+slot_again (g.as_word n) = then_again _ (expect_again n) refl
+slot_again (g.context_word n) = then_again _ (expect_again n) refl
+slot_again (g.operation p) = then_again _ (operation_again p) refl
+slot_again (g.removed p) = then_again _ (removed_again p) refl
+slot_again (g.existing p) = then_again _ (existing_again p) refl
+slot_again (g.context p) = then_again _ (context_again p) refl
+slot_again {x = x} (g.other p h) = then_again _ (other_again x.context p h) refl
+slot_again {scope = scope} (g.routine_name p) = then_again _ (routine_again scope p) refl
+slot_again (g.lock_name p) = then_again _ (lock_again p) refl
+
+-- { slot }: what is spelled is read
+pub slots_again : {scope : Scope} {ss : List Slot} {x y : Operands} {i o : Input} → SlotsAt scope ss x i y o →
+    slots scope ss x i ≡ Ok (y, o)
+slots_again g.no_slots = refl
+slots_again (g.slot p q) = then_again _ (slot_again p) (slots_again q)
+
+tail_again : {t : Tail} {x y : Operands} {i o : Input} (p : TailAt t x i y o) → TailOver p → tail t x i ≡ Ok (y, o)
+tail_again g.nothing f = refl
+tail_again (g.with_context p) f = then_again _ (with_context_again p f) refl
+tail_again (g.old p) f = then_again _ (old_again p f) refl
+tail_again {x = x} (g.other_old p h) f = then_again _ (other_old_again x.context p h f) refl
+tail_again (g.status p) f = then_again _ (status_again p f) refl
+
+-- the operands of a call: what is spelled and over is read
+operands_again : {scope : Scope} {ss : List Slot} {t : Tail} {x y : Operands} {a b o : Input} (i : Input) → next i ≡ a →
+    SlotsAt scope ss unfilled a x b → (p : TailAt t x b y o) → TailOver p → operands scope ss t i ≡ Ok (y, o)
+unfolding operands
+operands_again {scope = scope} {ss = ss} i e q p f = then_again _ (ap (slots scope ss unfilled) e ∙ slots_again q) (tail_again p f)
+
+-- ---- calls
+
+-- a word whose shape is known, at that word
+pub fallible_at : {s : FallibleShape} {i j : Input} (scope : Scope) → is_known scope.queue s ≡ true → Meant fallible_shape_of i s j →
+    fallible_call scope i ≡ (fallible_of s <$> operands scope (fallible_slots s) (fallible_tail s)) i
+unfolding fallible_call
+fallible_at {i = i} scope q n = ap (λ m. given m (fallible_by scope) refuse i) (means n) ∙ rw q refl
 
 -- fallible: what is spelled and over is read
-pub fallible_again : {scope : Scope} {i o : Input} {c : FallibleCall} (p : FallibleAt scope i c o) → FallibleOver p →
+pub fallible_again : {scope : Scope} {i o : Input} {c : FallibleCall Routine} (p : FallibleAt scope i c o) → FallibleOver p →
     fallible_call scope i ≡ Ok (c, o)
-unfolding obtain_context set_context delete_context_of insert_io remove_next_io queue_deferred queue_generic
-fallible_again {scope = scope} (g.obtain n p) f = fallible_at scope n
-    ∙ then_again _ (ap context_variable (left_is n) ∙ context_again p) refl
-fallible_again {scope = scope} (g.set_context n p q x h) f =
-    fallible_at scope n ∙ then_again _ (ap existing (left_is n) ∙ existing_again p)
-    (then_again _ (context_again q) (then_again _ (other_old_again _ x h f) refl))
-fallible_again {scope = scope} (g.delete_context_of n p) f = fallible_at scope n ∙ then_again _ (ap old (left_is n) ∙ old_again p f) refl
-fallible_again {scope = scope} (g.insert_io q n m p) f =
-    queue_at scope q n ∙ then_again _ (ap (expect k.Data) (left_is n) ∙ expect_again m) (then_again _ (with_context_again p f) refl)
-fallible_again {scope = scope} (g.remove_next_io q n p m x) f =
-    queue_at scope q n ∙ then_again _ (ap removed_variable (left_is n) ∙ removed_again p)
-    (then_again _ (expect_again m) (then_again _ (context_again x) refl))
-fallible_again {scope = scope} (g.queue_deferred n m p q) f =
-    fallible_at scope n ∙ then_again _ (ap (expect k.Data) (left_is n) ∙ expect_again m)
-    (then_again _ (routine_again scope p) (then_again _ (with_context_again q f) refl))
-fallible_again {scope = scope} (g.queue_generic n p q) f =
-    fallible_at scope n ∙ then_again _ (ap (routine scope) (left_is n) ∙ routine_again scope p) (then_again _ (with_context_again q f) refl)
+fallible_again {scope = scope} {i = i} (g.fallible n q p t) f =
+    fallible_at scope q n ∙ then_again _ (operands_again i (left_is n) p t f) refl
 
 -- the rule for the shape of a word, at that word
 pub plain_at : {s : PlainShape} {i j : Input} (scope : Scope) → Meant plain_shape_of i s j → plain_call scope i ≡ plain_by scope s i
@@ -187,37 +199,17 @@ plain_at {i = i} scope n = ap (λ m. given m (plain_by scope) refuse i) (means n
 
 -- plain: what is spelled and over is read
 pub plain_again : {scope : Scope} {i o : Input} {c : PlainCall} (p : PlainAt scope i c o) → PlainOver p → plain_call scope i ≡ Ok (c, o)
-unfolding end_context reference_context lock_call complete_pre complete_post
-plain_again {scope = scope} (g.end_context n p) f =
-    plain_at scope n ∙ then_again _ (ap context_variable (left_is n) ∙ context_again p) refl
-plain_again {scope = scope} (g.reference n p m q h) f =
-    plain_at scope n ∙ then_again _ (ap context_variable (left_is n) ∙ context_again p)
-    (then_again _ (expect_again m) (then_again _ (other_again _ q h) refl))
-plain_again {scope = scope} (g.lock_call {x = x} n p) f =
-    plain_at scope n ∙ then_again _ (ap (lock_named scope (lock_kind x)) (left_is n) ∙ lock_again p) refl
-plain_again {scope = scope} (g.complete_pre n p q) f =
-    plain_at scope n ∙ then_again _ (ap operation_variable (left_is n) ∙ operation_again p) (then_again _ (status_again q f) refl)
-plain_again {scope = scope} (g.complete_post n m) f = plain_at scope n ∙ then_again _ (ap (expect k.Data) (left_is n) ∙ expect_again m) refl
+plain_again {scope = scope} {i = i} (g.plain n p t) f = plain_at scope n ∙ then_again _ (operands_again i (left_is n) p t f) refl
 
 -- ---- with what calls begin
 
 -- with what words they begin
-pub fallible_begins : {scope : Scope} {i o : Input} {c : FallibleCall} → FallibleAt scope i c o → begins_fallible (kind i) ≡ true
-fallible_begins (g.obtain n _) = some_of (means n)
-fallible_begins (g.set_context n _ _ _ _) = some_of (means n)
-fallible_begins (g.delete_context_of n _) = some_of (means n)
-fallible_begins (g.insert_io _ n _ _) = some_of (means n)
-fallible_begins (g.remove_next_io _ n _ _ _) = some_of (means n)
-fallible_begins (g.queue_deferred n _ _ _) = some_of (means n)
-fallible_begins (g.queue_generic n _ _) = some_of (means n)
+pub fallible_begins : {scope : Scope} {i o : Input} {c : FallibleCall Routine} → FallibleAt scope i c o → begins_fallible (kind i) ≡ true
+fallible_begins (g.fallible n _ _ _) = some_of (means n)
 
 -- with what words they begin
 pub plain_begins : {scope : Scope} {i o : Input} {c : PlainCall} → PlainAt scope i c o → begins_plain (kind i) ≡ true
-plain_begins (g.end_context n _) = some_of (means n)
-plain_begins (g.reference n _ _ _ _) = some_of (means n)
-plain_begins (g.lock_call n _) = some_of (means n)
-plain_begins (g.complete_pre n _ _) = some_of (means n)
-plain_begins (g.complete_post n _) = some_of (means n)
+plain_begins (g.plain n _ _) = some_of (means n)
 
 -- ---- calls take tokens
 
@@ -238,20 +230,33 @@ routine_less (g.routine p) = name_less p
 lock_less : {scope : Scope} {lk : LockKind} {i o : Input} {l : LockNumber} → LockAt scope lk i l o → length o < length i
 lock_less (g.lock p e) = name_less p
 
+slot_less : {scope : Scope} {s : Slot} {x y : Operands} {i o : Input} → SlotAt scope s x i y o → length o < length i
+slot_less (g.data_word n) = next_less n
+slot_less (g.as_word n) = next_less n
+slot_less (g.context_word n) = next_less n
+slot_less (g.operation p) = meant_less p
+slot_less (g.removed p) = meant_less p
+slot_less (g.existing p) = meant_less p
+slot_less (g.context p) = meant_less p
+slot_less (g.other p h) = meant_less p
+slot_less (g.routine_name p) = routine_less p
+slot_less (g.lock_name p) = lock_less p
+
+slots_less : {scope : Scope} {ss : List Slot} {x y : Operands} {i o : Input} → SlotsAt scope ss x i y o → length o ≤ length i
+slots_less g.no_slots = omega arith
+slots_less (g.slot p q) = omega (arith, slot_less p, slots_less q)
+
+tail_less : {t : Tail} {x y : Operands} {i o : Input} → TailAt t x i y o → length o ≤ length i
+tail_less g.nothing = omega arith
+tail_less (g.with_context p) = optional_less p
+tail_less (g.old p) = optional_less p
+tail_less (g.other_old p h) = optional_less p
+tail_less (g.status p) = omega (arith, status_less p)
+
 -- fallible: fewer tokens are left behind it
-pub fallible_less : {scope : Scope} {i o : Input} {c : FallibleCall} → FallibleAt scope i c o → length o < length i
-fallible_less (g.obtain n p) = omega (arith, meant_less n, meant_less p)
-fallible_less (g.set_context n p q x h) = omega (arith, meant_less n, meant_less p, meant_less q, optional_less x)
-fallible_less (g.delete_context_of n p) = omega (arith, meant_less n, optional_less p)
-fallible_less (g.insert_io q n m p) = omega (arith, meant_less n, next_less m, optional_less p)
-fallible_less (g.remove_next_io q n p m x) = omega (arith, meant_less n, meant_less p, next_less m, meant_less x)
-fallible_less (g.queue_deferred n m p q) = omega (arith, meant_less n, next_less m, routine_less p, optional_less q)
-fallible_less (g.queue_generic n p q) = omega (arith, meant_less n, routine_less p, optional_less q)
+pub fallible_less : {scope : Scope} {i o : Input} {c : FallibleCall Routine} → FallibleAt scope i c o → length o < length i
+fallible_less (g.fallible n q p t) = omega (arith, meant_less n, slots_less p, tail_less t)
 
 -- plain: fewer tokens are left behind it
 pub plain_less : {scope : Scope} {i o : Input} {c : PlainCall} → PlainAt scope i c o → length o < length i
-plain_less (g.end_context n p) = omega (arith, meant_less n, meant_less p)
-plain_less (g.reference n p m q h) = omega (arith, meant_less n, meant_less p, next_less m, meant_less q)
-plain_less (g.lock_call n p) = omega (arith, meant_less n, lock_less p)
-plain_less (g.complete_pre n p q) = omega (arith, meant_less n, meant_less p, status_less q)
-plain_less (g.complete_post n m) = omega (arith, meant_less n, next_less m)
+plain_less (g.plain n p t) = omega (arith, meant_less n, slots_less p, tail_less t)

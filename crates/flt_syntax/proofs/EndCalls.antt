@@ -1,43 +1,45 @@
 -- Each reader ends: what it gives is spelled and over, and its fault is one by the relation beside the grammar. Statuses and calls.
-use Rattle.std.proofs.Common.{◌≡◌, Bool, true, false, Ok, refl, ap}
+use Rattle.std.proofs.Common.{◌≡◌, Bool, true, false, List, [], ◌∷◌, Ok, refl, ap}
 use Rattle.std.specs.Prelude.{Option, Some, None, if◌then◌else◌, ◌||◌, is_some}
 use Rattle.flt_rules.specs.declared.call.LockKind.{LockKind}
 use Rattle.flt_rules.specs.declared.call.LockNumber.{LockNumber}
 use Rattle.flt_syntax.specs.declared.shape.FallibleShape.{FallibleShape}
-use Rattle.flt_syntax.specs.declared.shape.FallibleShape.TheVariants as shapes
+use Rattle.flt_syntax.specs.declared.shape.Operands.{Operands}
 use Rattle.flt_syntax.specs.declared.shape.PlainShape.{PlainShape}
-use Rattle.flt_syntax.specs.declared.shape.PlainShape.TheVariants as plain_shapes
-use Rattle.flt_syntax.specs.declared.shape.QueueCall.{QueueCall}
-use Rattle.flt_syntax.specs.declared.shape.QueueCall.TheVariants as queued
+use Rattle.flt_syntax.specs.declared.shape.Slot.{Slot}
+use Rattle.flt_syntax.specs.declared.shape.Slot.TheVariants as part
+use Rattle.flt_syntax.specs.declared.shape.Tail.{Tail}
+use Rattle.flt_syntax.specs.declared.shape.Tail.TheVariants as last
 use Rattle.flt_syntax.specs.declared.token.Kind.{Kind}
 use Rattle.flt_syntax.specs.declared.token.Kind.TheVariants as k
 use Rattle.flt_syntax.specs.declared.token.Token.{Token}
 use Rattle.flt_syntax.specs.declared.fault.FaultKind.TheVariants.{E04}
+use Rattle.flt_syntax.specs.declared.fault.SyntaxFault.{SyntaxFault}
 use Rattle.flt_tree.specs.declared.filter.FallibleCall.{FallibleCall}
 use Rattle.flt_tree.specs.declared.filter.PlainCall.{PlainCall}
+use Rattle.flt_tree.specs.declared.filter.Routine.{Routine}
 use Rattle.flt_tree.specs.declared.filter.Status.{Status}
 use Rattle.flt_syntax.specs.Lex.{same_kind}
 use Rattle.flt_syntax.specs.CallGrammar as g
-use Rattle.flt_syntax.specs.CallGrammar.{StatusAt, OptionalStatusAt, RoutineAt, LockAt, FallibleAt, PlainAt}
+use Rattle.flt_syntax.specs.CallGrammar.{StatusAt, OptionalStatusAt, RoutineAt, LockAt, SlotAt, SlotsAt, TailAt, FallibleAt, PlainAt}
 use Rattle.flt_syntax.specs.Words.{Meant}
 use Rattle.flt_syntax.specs.Operand.{removed_variable, removed_variable_of, operation_variable, operation_variable_of}
 use Rattle.flt_syntax.specs.Scope.{Scope, lock_named, routine}
 use Rattle.flt_tree.specs.Declarations.{lock_number}
-use Rattle.flt_syntax.specs.Shape.{lock_kind}
-use Rattle.flt_syntax.specs.Status.{final_status_of, final_status, bare_status_of, bare_status}
-use Rattle.flt_syntax.specs.Status.{status_by, status, has_more, begins_status, optional_status}
-use Rattle.flt_syntax.specs.Call.{existing_of, existing, obtain_context, set_context, delete_context_of, insert_io, remove_next_io}
-use Rattle.flt_syntax.specs.Call.{queue_by, queue_call, queue_deferred, queue_generic, fallible_by, fallible_call, end_context}
-use Rattle.flt_syntax.specs.Call.{reference_context, lock_call, complete_pre, complete_post, plain_by, plain_call, fallible_shape_of}
-use Rattle.flt_syntax.specs.Call.{plain_shape_of}
+use Rattle.flt_syntax.specs.Status.{final_status_of, final_status, bare_status_of, bare_status, status_by, status, has_more, begins_status}
+use Rattle.flt_syntax.specs.Status.{optional_status}
+use Rattle.flt_syntax.specs.Call.{existing_of, existing, fallible_by, fallible_call, plain_by, plain_call, fallible_shape_of}
+use Rattle.flt_syntax.specs.Call.{plain_shape_of, slot, slots, tail, operands}
+use Rattle.flt_syntax.specs.Shape.{unfilled, fallible_slots, fallible_tail, fallible_of, is_known, plain_slots, plain_tail}
 use Rattle.flt_syntax.specs.Cursor.{Input, ◌<$>◌, kind, next, bytes_of, refusal, refuse, fault_at, fail, found_or, known_or, given}
 use Rattle.flt_syntax.proofs.TokenKinds.{took, meant_at}
-use Rattle.flt_syntax.specs.Over.{StatusOver, OptionalStatusOver, FallibleOver, PlainOver}
+use Rattle.flt_syntax.specs.Over.{StatusOver, OptionalStatusOver, TailOver, FallibleOver, PlainOver}
 use Rattle.flt_syntax.specs.WordFails.{NameFails, KnownFails, MeantFails}
 use Rattle.flt_syntax.specs.CallFails as bad
-use Rattle.flt_syntax.specs.CallFails.{StatusFails, OptionalStatusFails, LockFails, FallibleFails, PlainFails}
+use Rattle.flt_syntax.specs.CallFails.{StatusFails, OptionalStatusFails, LockFails, FallibleFails, PlainFails, SlotFails, SlotsFail}
+use Rattle.flt_syntax.specs.CallFails.{TailFails}
 use Rattle.flt_syntax.proofs.Ends.{WordAt, name_of, Ends, gives, fails, then_ends, refused, expect_ends, meant_ends, known_ends}
-use Rattle.flt_syntax.proofs.Ends.{context_ends, word_ends, spelled_ends, other_ends, with_context_ends, old_ends, other_old_ends}
+use Rattle.flt_syntax.proofs.Ends.{context_ends, word_ends, spelled_ends, other_ends, with_context_ends, old_ends, other_old_ends, ends_by}
 
 -- ---- variables
 
@@ -118,61 +120,87 @@ lock_ends : (scope : Scope) (lk : LockKind) (i : Input) → Ends (LockAt scope l
 unfolding lock_named
 lock_ends scope lk i = then_ends _ (word_ends i) (λ x h. bad.no_name h) (λ t o p. lock_by scope lk i t o _ p refl)
 
--- ---- calls that can fail
-
-abbrev pub FallibleHere : Scope → Input → FallibleCall → Input → Type 0
-FallibleHere scope i c o = (p : FallibleAt scope i c o) × FallibleOver p
+-- ---- slots
 
 existing_ends : (i : Input) → Ends (Meant existing_of i) (MeantFails existing_of i) (existing i)
 unfolding existing
 existing_ends i = meant_ends existing_of i _ refl refl
 
-insert_ends : (scope : Scope) (i : Input) → scope.queue ≡ true → Meant fallible_shape_of i (shapes.Queue queued.Insert) (next i) →
-    Ends (FallibleHere scope i) (FallibleFails scope i) (insert_io i)
-unfolding insert_io same_kind
-insert_ends scope i q n =
-    then_ends _ (expect_ends (next i) k.Data refl) (λ x h. bad.insert_data q n h) (λ _ b m.
-    then_ends _ (with_context_ends b) (λ x h. bad.insert_context q n m h) (λ c o p. gives (g.insert_io q n m p.0, p.1)))
+slot_ends : (scope : Scope) (s : Slot) (x : Operands) (i : Input) → Ends (SlotAt scope s x i) (SlotFails scope s x i) (slot scope s x i)
+unfolding same_kind
+slot_ends scope part.Data x i = then_ends _ (expect_ends i k.Data refl) (λ f h. bad.data_word h) (λ _ o n. gives (g.data_word n))
+slot_ends scope part.As x i = then_ends _ (expect_ends i k.As refl) (λ f h. bad.as_word h) (λ _ o n. gives (g.as_word n))
+slot_ends scope part.With x i = then_ends _ (expect_ends i k.Context refl) (λ f h. bad.context_word h) (λ _ o n. gives (g.context_word n))
+slot_ends scope part.Operation x i = then_ends _ (operation_ends i) (λ f h. bad.operation h) (λ d o p. gives (g.operation p))
+slot_ends scope part.Removed x i = then_ends _ (removed_ends i) (λ f h. bad.removed h) (λ v o p. gives (g.removed p))
+slot_ends scope part.Existing x i = then_ends _ (existing_ends i) (λ f h. bad.existing h) (λ e o p. gives (g.existing p))
+slot_ends scope part.Context x i = then_ends _ (context_ends i) (λ f h. bad.context h) (λ c o p. gives (g.context p))
+slot_ends scope part.Other x i = then_ends _ (other_ends x.context i) (λ f h. bad.other h) (λ d o p. gives (g.other p.0 p.1))
+slot_ends scope part.Routine x i = then_ends _ (routine_ends scope i) (λ f h. bad.routine_name h) (λ r o p. gives (g.routine_name p))
+slot_ends scope (part.Lock kind) x i = then_ends _ (lock_ends scope kind i) (λ f h. bad.lock_name h) (λ l o p. gives (g.lock_name p))
 
-remove_ends : (scope : Scope) (i : Input) → scope.queue ≡ true → Meant fallible_shape_of i (shapes.Queue queued.RemoveNext) (next i) →
-    Ends (FallibleHere scope i) (FallibleFails scope i) (remove_next_io i)
-unfolding remove_next_io same_kind
-remove_ends scope i q n =
-    then_ends _ (removed_ends (next i)) (λ x h. bad.remove_operation q n h) (λ v b p.
-    then_ends _ (expect_ends b k.Context refl) (λ x h. bad.remove_word q n p h) (λ _ l m.
-    then_ends _ (context_ends l) (λ x h. bad.remove_context q n p m h) (λ c o r. gives (g.remove_next_io q n p m r, tt))))
+slots_ends : (scope : Scope) (ss : List Slot) (x : Operands) (i : Input) →
+    Ends (SlotsAt scope ss x i) (SlotsFail scope ss x i) (slots scope ss x i)
+slots_ends scope [] x i = gives g.no_slots
+slots_ends scope (s ∷ ss) x i =
+    then_ends _ (slot_ends scope s x i) (λ f h. bad.here h)
+    (λ y a p. ends_by (λ z o q. g.slot p q) (λ f h. bad.later p h) (slots_ends scope ss y a))
 
-queue_ends : (scope : Scope) (i : Input) (q : Bool) (x : QueueCall) → scope.queue ≡ q →
-    Meant fallible_shape_of i (shapes.Queue x) (next i) →
-    Ends (FallibleHere scope i) (FallibleFails scope i) (if q then queue_by x i else fail E04 i)
-queue_ends scope i false x h n = fails (bad.queue_unknown n h)
-queue_ends scope i true queued.Insert h n = insert_ends scope i h n
-queue_ends scope i true queued.RemoveNext h n = remove_ends scope i h n
+-- what ends a call, which is over
+abbrev pub TailHere : Tail → Operands → Input → Operands → Input → Type 0
+TailHere t x i y o = (p : TailAt t x i y o) × TailOver p
 
-fallible_by_ends : (scope : Scope) (i : Input) (s : FallibleShape) → Meant fallible_shape_of i s (next i) →
-    Ends (FallibleHere scope i) (FallibleFails scope i) (fallible_by scope s i)
-unfolding same_kind obtain_context set_context delete_context_of queue_call queue_deferred queue_generic
-fallible_by_ends scope i (shapes.Obtain source) n =
-    then_ends _ (context_ends (next i)) (λ x h. bad.obtain n h) (λ c o p. gives (g.obtain n p, tt))
-fallible_by_ends scope i (shapes.Set anchor) n =
-    then_ends _ (existing_ends (next i)) (λ x h. bad.set_existing n h) (λ y b p.
-    then_ends _ (context_ends b) (λ x h. bad.set_context n p h) (λ c l q.
-    then_ends _ (other_old_ends c l) (λ x h. bad.set_old n p q h) (λ d o r. gives (g.set_context n p q r.0 r.2, r.1))))
-fallible_by_ends scope i (shapes.Delete anchor) n =
-    then_ends _ (old_ends (next i)) (λ x h. bad.delete_context_of n h) (λ d o p. gives (g.delete_context_of n p.0, p.1))
-fallible_by_ends scope i (shapes.Queue call) n = queue_ends scope i scope.queue call refl n
-fallible_by_ends scope i shapes.QueueDeferred n =
-    then_ends _ (expect_ends (next i) k.Data refl) (λ x h. bad.deferred_data n h) (λ _ b m.
-    then_ends _ (routine_ends scope b) (λ x h. bad.deferred_name n m h) (λ y l p.
-    then_ends _ (with_context_ends l) (λ x h. bad.deferred_context n m p h) (λ c o q. gives (g.queue_deferred n m p q.0, q.1))))
-fallible_by_ends scope i shapes.QueueGeneric n =
-    then_ends _ (routine_ends scope (next i)) (λ x h. bad.generic_name n h) (λ y b p.
-    then_ends _ (with_context_ends b) (λ x h. bad.generic_context n p h) (λ c o q. gives (g.queue_generic n p q.0, q.1)))
+tail_ends : (t : Tail) (x : Operands) (i : Input) → Ends (TailHere t x i) (TailFails t x i) (tail t x i)
+tail_ends last.Nothing x i = gives (g.nothing, tt)
+tail_ends last.With x i = then_ends _ (with_context_ends i) (λ f h. bad.with_context h) (λ c o p. gives (g.with_context p.0, p.1))
+tail_ends last.Old x i = then_ends _ (old_ends i) (λ f h. bad.old h) (λ c o p. gives (g.old p.0, p.1))
+tail_ends last.OtherOld x i =
+    then_ends _ (other_old_ends x.context i) (λ f h. bad.other_old h) (λ c o p. gives (g.other_old p.0 p.2, p.1))
+tail_ends last.Status x i = then_ends _ (status_ends i) (λ f h. bad.status h) (λ s o p. gives (g.status p.0, p.1))
+
+-- the operands of a call: its slots, and what ends it
+record OperandsHere (scope : Scope) (ss : List Slot) (t : Tail) (i : Input) (y : Operands) (o : Input) : Type 0 where
+  between : Operands
+  middle : Input
+  filled : SlotsAt scope ss unfilled i between middle
+  ended : TailAt t between middle y o
+  over : TailOver ended
+
+-- they fail in a slot, or where they end
+data OperandsFail (scope : Scope) (ss : List Slot) (t : Tail) (i : Input) (f : SyntaxFault) : Type 0 where
+  in_slot : SlotsFail scope ss unfilled i f → OperandsFail scope ss t i f
+  at_end : {x : Operands} {b : Input} → SlotsAt scope ss unfilled i x b → TailFails t x b f → OperandsFail scope ss t i f
+
+operands_ends : (scope : Scope) (ss : List Slot) (t : Tail) (i : Input) →
+    Ends (OperandsHere scope ss t (next i)) (OperandsFail scope ss t (next i)) (operands scope ss t i)
+unfolding operands
+operands_ends scope ss t i =
+    then_ends _ (slots_ends scope ss unfilled (next i)) (λ f h. in_slot h)
+    (λ x b p. ends_by (λ y o q. record { between = x; middle = b; filled = p; ended = q.0; over = q.1 }) (λ f h. at_end p h)
+    (tail_ends t x b))
+
+-- ---- calls that can fail
+
+abbrev pub FallibleHere : Scope → Input → FallibleCall Routine → Input → Type 0
+FallibleHere scope i c o = (p : FallibleAt scope i c o) × FallibleOver p
+
+known_ends_by : (scope : Scope) (i : Input) (s : FallibleShape) (b : Bool) → is_known scope.queue s ≡ b →
+    Meant fallible_shape_of i s (next i) →
+    Ends (FallibleHere scope i) (FallibleFails scope i)
+    (if b then (fallible_of s <$> operands scope (fallible_slots s) (fallible_tail s)) i else fail E04 i)
+known_ends_by scope i s false q n = fails (bad.unknown_call n q)
+known_ends_by scope i s true q n =
+    then_ends _ (operands_ends scope (fallible_slots s) (fallible_tail s) i) fault
+    (λ y o p. gives (g.fallible n q p.filled p.ended, p.over))
+  where
+    fault : (f : SyntaxFault) → OperandsFail scope (fallible_slots s) (fallible_tail s) (next i) f → FallibleFails scope i f
+    fault f (in_slot h) = bad.fallible_slot n q h
+    fault f (at_end p h) = bad.fallible_end n q p h
 
 fallible_as : (scope : Scope) (i : Input) (m : Option FallibleShape) → fallible_shape_of (kind i) ≡ m →
     Ends (FallibleHere scope i) (FallibleFails scope i) (given m (fallible_by scope) refuse i)
 fallible_as scope i None e = fails (bad.no_fallible (ap is_some e) (refused i))
-fallible_as scope i (Some s) e = fallible_by_ends scope i s (meant_at fallible_shape_of i s refl e)
+fallible_as scope i (Some s) e = known_ends_by scope i s (is_known scope.queue s) refl (meant_at fallible_shape_of i s refl e)
 
 -- fallible: what is read is spelled and over, else it fails so
 pub fallible_ends : (scope : Scope) (i : Input) → Ends (FallibleHere scope i) (FallibleFails scope i) (fallible_call scope i)
@@ -186,20 +214,13 @@ PlainHere scope i c o = (p : PlainAt scope i c o) × PlainOver p
 
 plain_by_ends : (scope : Scope) (i : Input) (s : PlainShape) → Meant plain_shape_of i s (next i) →
     Ends (PlainHere scope i) (PlainFails scope i) (plain_by scope s i)
-unfolding same_kind end_context reference_context lock_call complete_pre complete_post
-plain_by_ends scope i (plain_shapes.End how) n =
-    then_ends _ (context_ends (next i)) (λ x h. bad.end_context n h) (λ c o p. gives (g.end_context n p, tt))
-plain_by_ends scope i plain_shapes.Reference n =
-    then_ends _ (context_ends (next i)) (λ x h. bad.reference_context n h) (λ c b p.
-    then_ends _ (expect_ends b k.As refl) (λ x h. bad.reference_word n p h) (λ _ l m.
-    then_ends _ (other_ends c l) (λ x h. bad.reference_copy n p m h) (λ d o q. gives (g.reference n p m q.0 q.1, tt))))
-plain_by_ends scope i (plain_shapes.Lock call) n =
-    then_ends _ (lock_ends scope (lock_kind call) (next i)) (λ x h. bad.lock_call n h) (λ l o p. gives (g.lock_call n p, tt))
-plain_by_ends scope i plain_shapes.CompletePre n =
-    then_ends _ (operation_ends (next i)) (λ x h. bad.complete_pre_operation n h) (λ d b p.
-    then_ends _ (status_ends b) (λ x h. bad.complete_pre_status n p h) (λ s o q. gives (g.complete_pre n p q.0, q.1)))
-plain_by_ends scope i plain_shapes.CompletePost n =
-    then_ends _ (expect_ends (next i) k.Data refl) (λ x h. bad.complete_post n h) (λ _ o m. gives (g.complete_post n m, tt))
+plain_by_ends scope i s n =
+    then_ends _ (operands_ends scope (plain_slots s) (plain_tail s) i) fault
+    (λ y o p. gives (g.plain n p.filled p.ended, p.over))
+  where
+    fault : (f : SyntaxFault) → OperandsFail scope (plain_slots s) (plain_tail s) (next i) f → PlainFails scope i f
+    fault f (in_slot h) = bad.plain_slot n h
+    fault f (at_end p h) = bad.plain_end n p h
 
 plain_as : (scope : Scope) (i : Input) (m : Option PlainShape) → plain_shape_of (kind i) ≡ m →
     Ends (PlainHere scope i) (PlainFails scope i) (given m (plain_by scope) refuse i)

@@ -14,12 +14,13 @@ use Rattle.flt_rules.specs.declared.call.LockNumber.TheVariants.{L0, L1, L2, L3,
 use Rattle.flt_syntax.specs.ActionGrammar as actions
 use Rattle.flt_syntax.specs.ActionGrammar.{AtomAt, ExpressionAt, ActionAt, TestAt, ConditionAt}
 use Rattle.flt_syntax.specs.CallGrammar as calls
-use Rattle.flt_syntax.specs.CallGrammar.{StatusAt, OptionalStatusAt, RoutineAt, LockAt, FallibleAt, PlainAt}
+use Rattle.flt_syntax.specs.CallGrammar.{StatusAt, OptionalStatusAt, RoutineAt, LockAt, SlotAt, SlotsAt, TailAt, FallibleAt, PlainAt}
 use Rattle.flt_tree.specs.Declarations.{name_of, lock_name, same_lock_kind, lock_place, lock_at_place, lock_number}
 use Rattle.flt_syntax.specs.Cursor.{Input}
 use Rattle.flt_tree.specs.Names.{Text, is_name}
 use Rattle.flt_syntax.specs.Scope.{Scope}
-use Rattle.flt_syntax.specs.Shape.{obtaining, ending, lock_kind, locking}
+use Rattle.flt_syntax.specs.Shape.{obtaining, ending, lock_kind, locking, unfilled, fallible_slots, fallible_tail, fallible_of, is_known}
+use Rattle.flt_syntax.specs.Shape.{plain_slots, plain_tail, plain_of}
 use Rattle.flt_tree.specs.WellFormed.{IsAtom, IsExpression, IsAction, IsTest, IsFallible, IsCondition, IsLock, IsPlain}
 use Rattle.flt_syntax.specs.Words as words
 use Rattle.flt_syntax.specs.Words.{Next, Meant, NameAt, NumberAt, OptionalAt}
@@ -35,8 +36,16 @@ use Rattle.flt_syntax.specs.declared.shape.ContextEnd.{ContextEnd}
 use Rattle.flt_syntax.specs.declared.shape.ContextEnd.TheVariants as ends
 use Rattle.flt_syntax.specs.declared.shape.ContextSource.{ContextSource}
 use Rattle.flt_syntax.specs.declared.shape.ContextSource.TheVariants as sources
+use Rattle.flt_syntax.specs.declared.shape.FallibleShape.{FallibleShape}
+use Rattle.flt_syntax.specs.declared.shape.FallibleShape.TheVariants as shapes
 use Rattle.flt_syntax.specs.declared.shape.LockCall.{LockCall}
 use Rattle.flt_syntax.specs.declared.shape.LockCall.TheVariants as does
+use Rattle.flt_syntax.specs.declared.shape.Operands.{Operands}
+use Rattle.flt_syntax.specs.declared.shape.PlainShape.{PlainShape}
+use Rattle.flt_syntax.specs.declared.shape.PlainShape.TheVariants as plain_shapes
+use Rattle.flt_syntax.specs.declared.shape.QueueCall.TheVariants as queued
+use Rattle.flt_syntax.specs.declared.shape.Slot.{Slot}
+use Rattle.flt_syntax.specs.declared.shape.Tail.{Tail}
 use Rattle.flt_syntax.specs.declared.token.Kind.{Kind}
 use Rattle.flt_tree.specs.declared.variable.Atom.{Atom}
 use Rattle.flt_tree.specs.declared.variable.ContextVariable.{ContextVariable}
@@ -124,19 +133,53 @@ fine_routine : {text : Text} {i o : Input} {r : Routine} → RoutineAt text i r 
     × AreTokens text o
 fine_routine (calls.routine p) h = fine_name p h
 
+-- the tokens after slots are tokens of the text
+slot_on : {scope : Scope} {s : Slot} {x y : Operands} {i o : Input} → SlotAt scope s x i y o → AreTokens scope.text i →
+    AreTokens scope.text o
+slot_on (calls.data_word n) h = next_on n h
+slot_on (calls.as_word n) h = next_on n h
+slot_on (calls.context_word n) h = next_on n h
+slot_on (calls.operation p) h = meant_on p h
+slot_on (calls.removed p) h = meant_on p h
+slot_on (calls.existing p) h = meant_on p h
+slot_on (calls.context p) h = meant_on p h
+slot_on (calls.other p e) h = meant_on p h
+slot_on (calls.routine_name p) h = (fine_routine p h).1
+slot_on (calls.lock_name p) h = (fine_lock p h).1
+
+slots_on : {scope : Scope} {ss : List Slot} {x y : Operands} {i o : Input} → SlotsAt scope ss x i y o → AreTokens scope.text i →
+    AreTokens scope.text o
+slots_on calls.no_slots h = h
+slots_on (calls.slot p q) h = slots_on q (slot_on p h)
+
+tail_on : {text : Text} {t : Tail} {x y : Operands} {i o : Input} → TailAt t x i y o → AreTokens text i → AreTokens text o
+tail_on calls.nothing h = h
+tail_on (calls.with_context p) h = optional_on p h
+tail_on (calls.old p) h = optional_on p h
+tail_on (calls.other_old p e) h = optional_on p h
+tail_on (calls.status p) h = status_on p h
+
 fine_obtained : (queue : Bool) (s : ContextSource) (c : ContextVariable) → IsFallible queue (obtaining s c)
 fine_obtained queue sources.Allocate c = tt
 fine_obtained queue (sources.Get anchor) c = tt
 
-fine_call : {scope : Scope} {i o : Input} {c : FallibleCall} → FallibleAt scope i c o → AreTokens scope.text i →
+-- a call that is made of what its slots and its tail read is well-formed
+fine_fallible : {scope : Scope} (s : FallibleShape) {x y : Operands} {a b o : Input} → is_known scope.queue s ≡ true →
+    SlotsAt scope (fallible_slots s) unfilled a x b → TailAt (fallible_tail s) x b y o → AreTokens scope.text a →
+    IsFallible scope.queue (fallible_of s y)
+fine_fallible {scope = scope} (shapes.Obtain source) {y = y} q p t h = fine_obtained scope.queue source y.context
+fine_fallible (shapes.Set anchor) q p (calls.other_old r e) h = e
+fine_fallible (shapes.Delete anchor) q p t h = tt
+fine_fallible (shapes.Queue queued.Insert) q p t h = q
+fine_fallible (shapes.Queue queued.RemoveNext) q p t h = q
+fine_fallible shapes.QueueDeferred q (calls.slot n (calls.slot (calls.routine_name r) calls.no_slots)) (calls.with_context t) h =
+    (fine_routine r (slot_on n h)).0
+fine_fallible shapes.QueueGeneric q (calls.slot (calls.routine_name r) calls.no_slots) (calls.with_context t) h = (fine_routine r h).0
+
+fine_call : {scope : Scope} {i o : Input} {c : FallibleCall Routine} → FallibleAt scope i c o → AreTokens scope.text i →
     IsFallible scope.queue c × AreTokens scope.text o
-fine_call {scope = scope} (calls.obtain {s = s} {c = c} n p) h = (fine_obtained scope.queue s c, meant_on p (meant_on n h))
-fine_call (calls.set_context n m p q e) h = (e, optional_on q (meant_on p (meant_on m (meant_on n h))))
-fine_call (calls.delete_context_of n p) h = (tt, optional_on p (meant_on n h))
-fine_call (calls.insert_io e n m p) h = (e, optional_on p (next_on m (meant_on n h)))
-fine_call (calls.remove_next_io e n p m q) h = (e, meant_on q (next_on m (meant_on p (meant_on n h))))
-fine_call (calls.queue_deferred n m p q) h = let r = fine_routine p (next_on m (meant_on n h)) in (r.0, optional_on q r.1)
-fine_call (calls.queue_generic n p q) h = let r = fine_routine p (meant_on n h) in (r.0, optional_on q r.1)
+fine_call (calls.fallible {s = s} n q p t) h =
+    let a = meant_on n h in (fine_fallible s q p t a, tail_on t (slots_on p a))
 
 fine_ended : (locks : List Lock) (e : ContextEnd) (c : ContextVariable) → IsPlain locks (ending e c)
 fine_ended locks ends.Delete c = tt
@@ -147,15 +190,22 @@ fine_locked locks (does.Acquire kind) l h = h
 fine_locked locks does.AcquireShared l h = h
 fine_locked locks (does.Release kind) l h = h
 
+-- the same of a plain call
+fine_made : {scope : Scope} (s : PlainShape) {x y : Operands} {a b o : Input} → SlotsAt scope (plain_slots s) unfilled a x b →
+    TailAt (plain_tail s) x b y o → AreTokens scope.text a → IsPlain scope.locks (plain_of s y)
+fine_made {scope = scope} (plain_shapes.End how) {y = y} p t h = fine_ended scope.locks how y.context
+fine_made plain_shapes.Reference
+    (calls.slot (calls.context p) (calls.slot (calls.as_word n) (calls.slot (calls.other q e) calls.no_slots))) calls.nothing h = e
+fine_made {scope = scope} (plain_shapes.Lock call) (calls.slot (calls.lock_name {l = l} p) calls.no_slots) calls.nothing h =
+    fine_locked scope.locks call l (fine_lock p h).0
+fine_made plain_shapes.CompletePre p t h = tt
+fine_made plain_shapes.CompletePost p t h = tt
+
 -- a plain call that is spelled is well-formed, and the tokens after it are tokens of the text
 pub fine_plain : {scope : Scope} {i o : Input} {c : PlainCall} → PlainAt scope i c o → AreTokens scope.text i →
     IsPlain scope.locks c × AreTokens scope.text o
-fine_plain {scope = scope} (calls.end_context {e = e} {c = c} n p) h = (fine_ended scope.locks e c, meant_on p (meant_on n h))
-fine_plain (calls.reference n p m q e) h = (e, meant_on q (next_on m (meant_on p (meant_on n h))))
-fine_plain {scope = scope} (calls.lock_call {x = x} {l = l} n p) h =
-    let f = fine_lock p (meant_on n h) in (fine_locked scope.locks x l f.0, f.1)
-fine_plain (calls.complete_pre n p q) h = (tt, status_on q (meant_on p (meant_on n h)))
-fine_plain (calls.complete_post n m) h = (tt, next_on m (meant_on n h))
+fine_plain (calls.plain {s = s} n p t) h =
+    let a = meant_on n h in (fine_made s p t a, tail_on t (slots_on p a))
 
 -- ---- actions and tests
 

@@ -1,12 +1,15 @@
 -- What may follow what is spelled: there it is over. And with what no statement begins.
 use Rattle.std.proofs.Common.{◌≡◌, ◌≢◌, ℕ, Bool, true, false, List, refl, sym, ap, ◌∙◌}
 use Rattle.std.specs.Prelude.{Option, ◌&&◌, ◌||◌}
+use Rattle.flt_syntax.specs.declared.shape.Operands.{Operands}
+use Rattle.flt_syntax.specs.declared.shape.Tail.{Tail}
 use Rattle.flt_syntax.specs.declared.token.Kind.{Kind}
 use Rattle.flt_syntax.specs.declared.token.Kind.TheVariants as k
 use Rattle.flt_tree.specs.declared.filter.Action.{Action}
 use Rattle.flt_tree.specs.declared.filter.Condition.{Condition}
 use Rattle.flt_tree.specs.declared.filter.FallibleCall.{FallibleCall}
 use Rattle.flt_tree.specs.declared.filter.PlainCall.{PlainCall}
+use Rattle.flt_tree.specs.declared.filter.Routine.{Routine}
 use Rattle.flt_tree.specs.declared.filter.Statement.{Statement}
 use Rattle.flt_tree.specs.declared.filter.Status.{Status}
 use Rattle.flt_tree.specs.declared.variable.ContextVariable.{ContextVariable}
@@ -16,13 +19,13 @@ use Rattle.flt_tree.specs.declared.variable.RemovedVariable.{RemovedVariable}
 use Rattle.flt_syntax.specs.ActionGrammar as acting
 use Rattle.flt_syntax.specs.ActionGrammar.{ExpressionAt, ActionAt, ConditionAt}
 use Rattle.flt_syntax.specs.CallGrammar as calling
-use Rattle.flt_syntax.specs.CallGrammar.{StatusAt, OptionalStatusAt, FallibleAt, PlainAt}
+use Rattle.flt_syntax.specs.CallGrammar.{StatusAt, OptionalStatusAt, TailAt, FallibleAt, PlainAt}
 use Rattle.flt_syntax.specs.Cursor.{Input, kind, sees}
 use Rattle.flt_syntax.specs.FirstWords.{begins_status, begins_plain, has_blocks}
 use Rattle.flt_syntax.specs.Grammar as s
 use Rattle.flt_syntax.specs.Grammar.{StatementAt, ElseAt, StatementsAt}
-use Rattle.flt_syntax.specs.Over.{OptionalOver, StatusOver, OptionalStatusOver, FallibleOver, PlainOver}
-use Rattle.flt_syntax.specs.Over.{ExpressionOver, ActionOver, ConditionOver, ElseOver, StatementOver}
+use Rattle.flt_syntax.specs.Over.{OptionalOver, StatusOver, OptionalStatusOver, FallibleOver, PlainOver, ExpressionOver, ActionOver}
+use Rattle.flt_syntax.specs.Over.{ConditionOver, ElseOver, StatementOver, TailOver}
 use Rattle.flt_syntax.specs.Scope.{Scope}
 use Rattle.flt_syntax.specs.Tables.{number_variable_of, removed_variable_of}
 use Rattle.flt_syntax.specs.Words as words
@@ -109,17 +112,18 @@ optional_status_over : {i o : Input} {x : Option Status} (p : OptionalStatusAt i
 optional_status_over (calling.no_status {i = i}) f = no_status i f
 optional_status_over (calling.some_status p) f = status_over p f
 
-fallible_over : {scope : Scope} {i o : Input} {c : FallibleCall} (p : FallibleAt scope i c o) → Follows o → FallibleOver p
-fallible_over (calling.set_context n p q x h) f = optional_over x refl f
-fallible_over (calling.delete_context_of n p) f = optional_over p refl f
-fallible_over (calling.insert_io q n m p) f = optional_over p refl f
-fallible_over (calling.queue_deferred n m p q) f = optional_over q refl f
-fallible_over (calling.queue_generic n p q) f = optional_over q refl f
-fallible_over _ f = tt
+tail_over : {t : Tail} {x y : Operands} {i o : Input} (p : TailAt t x i y o) → Follows o → TailOver p
+tail_over calling.nothing f = tt
+tail_over (calling.with_context p) f = optional_over p refl f
+tail_over (calling.old p) f = optional_over p refl f
+tail_over (calling.other_old p h) f = optional_over p refl f
+tail_over (calling.status p) f = status_over p f
+
+fallible_over : {scope : Scope} {i o : Input} {c : FallibleCall Routine} (p : FallibleAt scope i c o) → Follows o → FallibleOver p
+fallible_over (calling.fallible n q p t) f = tail_over t f
 
 plain_over : {scope : Scope} {i o : Input} {c : PlainCall} (p : PlainAt scope i c o) → Follows o → PlainOver p
-plain_over (calling.complete_pre n p q) f = status_over q f
-plain_over _ f = tt
+plain_over (calling.plain n p t) f = tail_over t f
 
 expression_over : {i o : Input} {x : Expression} (p : ExpressionAt i x o) → Follows o → ExpressionOver p
 expression_over (acting.one {o = o} p) f = (no_tail k.Plus o f refl, no_tail k.Minus o f refl)

@@ -1,3 +1,4 @@
+pub mod AllTexts
 pub mod Complete
 pub mod CompleteCalls
 pub mod CompleteFiles

@@ -10,6 +10,7 @@ use Rattle.flt_tree.specs.declared.filter.FallibleCall.{FallibleCall}
 use Rattle.flt_tree.specs.declared.filter.FallibleCall.TheVariants.{QueueDeferredIoWorkItem, QueueGenericWorkItem}
 use Rattle.flt_tree.specs.declared.filter.Head.{Head}
 use Rattle.flt_tree.specs.declared.filter.Position.{Position}
+use Rattle.flt_tree.specs.declared.filter.Routine.{Routine}
 use Rattle.flt_tree.specs.declared.filter.Span.{Span}
 use Rattle.flt_tree.specs.declared.filter.Statement.{Statement, roll-Statement}
 use Rattle.flt_tree.specs.declared.filter.Statement.TheVariants.{If, Repeat, rolls-If, rolls-Repeat}
@@ -40,7 +41,7 @@ module _ (cs : List Callback) (from : Head) where
   test_tells (bad.deferred e) = rw e refl
   test_tells (bad.generic e) = rw e refl
 
-  call_finds : (c : FallibleCall) → finds_routine cs from c ≡ true → missing_in cs from c ≡ None
+  call_finds : (c : FallibleCall Routine) → finds_routine cs from c ≡ true → missing_in cs from c ≡ None
   call_finds (QueueDeferredIoWorkItem r context) e = rw e refl
   call_finds (QueueGenericWorkItem r context) e = rw e refl
   call_finds _ e = refl
@@ -78,7 +79,7 @@ module _ (cs : List Callback) (from : Head) where
   no_some : {A : Type 0} {m : Option A} {a : A} {P : Type 0} → m ≡ None → m ≡ Some a → P
   no_some {a = a} e h = elim (none_some a (sym e ∙ h)) [ ]
 
-  call_by : (c : FallibleCall) (at : Position) → missing_in cs from c ≡ Some at → TestMisses cs from (Succeeds c) at
+  call_by : (c : FallibleCall Routine) (at : Position) → missing_in cs from c ≡ Some at → TestMisses cs from (Succeeds c) at
   call_by (QueueDeferredIoWorkItem r context) at e = deferred_by r.position (has_deferred from r.name cs) refl e
     where
       deferred_by : (p : Position) (b : Bool) → has_deferred from r.name cs ≡ b → unless b r.position ≡ Some at →
@@ -99,7 +100,7 @@ module _ (cs : List Callback) (from : Head) where
   test_by (Succeeds c) at e = call_by c at e
   test_by _ at e = elim (none_some at e) [ ]
 
-  call_finds_none : (c : FallibleCall) → missing_in cs from c ≡ None → finds_routine cs from c ≡ true
+  call_finds_none : (c : FallibleCall Routine) → missing_in cs from c ≡ None → finds_routine cs from c ≡ true
   call_finds_none (QueueDeferredIoWorkItem r context) e = found_by (has_deferred from r.name cs) r.position e
     where
       found_by : (b : Bool) (p : Position) → unless b p ≡ None → b ≡ true

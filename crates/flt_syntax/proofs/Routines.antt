@@ -11,6 +11,7 @@ use Rattle.flt_tree.specs.declared.filter.FallibleCall.{FallibleCall}
 use Rattle.flt_tree.specs.declared.filter.FallibleCall.TheVariants.{QueueDeferredIoWorkItem, QueueGenericWorkItem}
 use Rattle.flt_tree.specs.declared.filter.Head.{Head}
 use Rattle.flt_tree.specs.declared.filter.Position.{Position}
+use Rattle.flt_tree.specs.declared.filter.Routine.{Routine}
 use Rattle.flt_tree.specs.declared.filter.Statement.{Statement}
 use Rattle.flt_tree.specs.declared.filter.Statement.TheOpen.{Statement-F}
 use Rattle.flt_tree.specs.declared.filter.Statement.TheFolds.{map-Statement, fold-roll-Statement, ind-Statement}
@@ -25,7 +26,7 @@ unless_is_none true at = refl
 unless_is_none false at = refl
 
 module _ (cs : List Callback) (from : Head) where
-  call_same : (c : FallibleCall) → is_none (missing_in cs from c) ≡ finds_routine cs from c
+  call_same : (c : FallibleCall Routine) → is_none (missing_in cs from c) ≡ finds_routine cs from c
   call_same (QueueDeferredIoWorkItem r context) = unless_is_none (has_deferred from r.name cs) r.position
   call_same (QueueGenericWorkItem r context) = unless_is_none (has_generic r.name cs) r.position
   call_same _ = refl

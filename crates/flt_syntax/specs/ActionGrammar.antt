@@ -10,6 +10,7 @@ use Rattle.flt_tree.specs.declared.filter.Action.TheVariants.{SetNumber, ReadVal
 use Rattle.flt_tree.specs.declared.filter.Condition.{Condition}
 use Rattle.flt_tree.specs.declared.filter.Condition.TheVariants as made
 use Rattle.flt_tree.specs.declared.filter.FallibleCall.{FallibleCall}
+use Rattle.flt_tree.specs.declared.filter.Routine.{Routine}
 use Rattle.flt_tree.specs.declared.filter.Test.{Test}
 use Rattle.flt_tree.specs.declared.filter.Test.TheVariants.{ContextIsSome, OperationIsSome, Equal, Less, IsIrp, IsDraining}
 use Rattle.flt_syntax.specs.declared.token.Kind.TheVariants as k
@@ -81,4 +82,4 @@ pub data TestAt : Input → Test → Input → Type 0 where
 pub data ConditionAt (scope : Scope) : Input → Condition → Input → Type 0 where
   test : {i o : Input} {t : Test} → TestAt i t o → ConditionAt scope i (made.Test t) o
   -- fallible
-  succeeds : {i o : Input} {c : FallibleCall} → FallibleAt scope i c o → ConditionAt scope i (made.Succeeds c) o
+  succeeds : {i o : Input} {c : FallibleCall Routine} → FallibleAt scope i c o → ConditionAt scope i (made.Succeeds c) o

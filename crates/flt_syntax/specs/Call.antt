@@ -1,25 +1,22 @@
--- How calls are read. Each production begins at the call's own word, which its reader takes; the word says the shape of what follows.
-use Rattle.std.specs.Prelude.{if◌then◌else◌, Option, Some, None}
-use Rattle.flt_rules.specs.declared.call.Anchor.{Anchor}
+-- How calls are read: the word says the shape, and the shape which slots are read behind it, and what ends the call.
+use Rattle.std.specs.Prelude.{if◌then◌else◌, List, [], ◌∷◌, Option, Some, None}
 use Rattle.flt_rules.specs.declared.call.Existing.{Existing}
-use Rattle.flt_syntax.specs.Cursor.{Parser, ◌>>=◌, ◌>>◌, pure, ◌<$>◌, kind, refusal, refuse, take_token, known_or, given, eat, expect}
+use Rattle.flt_syntax.specs.Cursor.{Parser, ◌>>=◌, ◌>>◌, pure, ◌<$>◌, kind, refusal, refuse, fail, take_token, known_or, given, eat, expect}
 use Rattle.flt_syntax.specs.Operand.{context_variable, removed_variable, operation_variable, other_context, with_context}
-use Rattle.flt_syntax.specs.Scope.{Scope, in_queue, lock_named, routine}
-use Rattle.flt_syntax.specs.Shape.{obtaining, ending, lock_kind, locking}
+use Rattle.flt_syntax.specs.Scope.{Scope, lock_named, routine}
+use Rattle.flt_syntax.specs.Shape.{unfilled, fallible_slots, fallible_tail, fallible_of, is_known, plain_slots, plain_tail, plain_of}
 use Rattle.flt_syntax.specs.Status.{status}
 use Rattle.flt_tree.specs.declared.filter.FallibleCall.{FallibleCall}
-use Rattle.flt_tree.specs.declared.filter.FallibleCall.TheVariants as fallible
 use Rattle.flt_tree.specs.declared.filter.PlainCall.{PlainCall}
-use Rattle.flt_tree.specs.declared.filter.PlainCall.TheVariants as plain
-use Rattle.flt_syntax.specs.declared.shape.ContextEnd.{ContextEnd}
-use Rattle.flt_syntax.specs.declared.shape.ContextSource.{ContextSource}
+use Rattle.flt_tree.specs.declared.filter.Routine.{Routine}
+use Rattle.flt_syntax.specs.declared.fault.FaultKind.TheVariants.{E04}
 use Rattle.flt_syntax.specs.declared.shape.FallibleShape.{FallibleShape}
-use Rattle.flt_syntax.specs.declared.shape.FallibleShape.TheVariants as shapes
-use Rattle.flt_syntax.specs.declared.shape.LockCall.{LockCall}
+use Rattle.flt_syntax.specs.declared.shape.Operands.{Operands}
 use Rattle.flt_syntax.specs.declared.shape.PlainShape.{PlainShape}
-use Rattle.flt_syntax.specs.declared.shape.PlainShape.TheVariants as plain_shapes
-use Rattle.flt_syntax.specs.declared.shape.QueueCall.{QueueCall}
-use Rattle.flt_syntax.specs.declared.shape.QueueCall.TheVariants as queued
+use Rattle.flt_syntax.specs.declared.shape.Slot.{Slot}
+use Rattle.flt_syntax.specs.declared.shape.Slot.TheVariants as part
+use Rattle.flt_syntax.specs.declared.shape.Tail.{Tail}
+use Rattle.flt_syntax.specs.declared.shape.Tail.TheVariants as last
 use Rattle.flt_syntax.specs.declared.token.Kind.TheVariants as k
 use Rattle.flt_tree.specs.declared.variable.ContextVariable.{ContextVariable}
 pub use Rattle.flt_syntax.specs.Tables.{existing_of, fallible_shape_of, plain_shape_of}
@@ -42,115 +39,52 @@ other_old first = do
   found ← eat k.Old
   if found then Some <$> other_context first else pure None
 
--- ---- calls that can fail
+-- ---- slots
 
--- C
-unfoldable pub obtain_context : ContextSource → Parser FallibleCall
-obtain_context source = take_token >> obtaining source <$> context_variable
+-- a slot, which is put into the operands
+abbrev pub slot : Scope → Slot → Operands → Parser Operands
+slot scope part.Data x = expect k.Data >> pure x
+slot scope part.As x = expect k.As >> pure x
+slot scope part.With x = expect k.Context >> pure x
+slot scope part.Operation x = (λ d. record x { operation = d }) <$> operation_variable
+slot scope part.Removed x = (λ o. record x { removed = o }) <$> removed_variable
+slot scope part.Existing x = (λ e. record x { existing = e }) <$> existing
+slot scope part.Context x = (λ c. record x { context = c }) <$> context_variable
+slot scope part.Other x = (λ d. record x { other = d }) <$> other_context x.context
+slot scope part.Routine x = (λ r. record x { routine = r }) <$> routine scope
+slot scope (part.Lock kind) x = (λ l. record x { lock = l }) <$> lock_named scope kind
 
--- existing C [ "old" C ]
-unfoldable pub set_context : Anchor → Parser FallibleCall
-set_context anchor = do
-  take_token
-  e ← existing
-  c ← context_variable
-  d ← other_old c
-  pure (fallible.SetContext anchor e c d)
+-- one slot after the other
+abbrev pub slots : Scope → List Slot → Operands → Parser Operands
+slots scope [] x = pure x
+slots scope (s ∷ ss) x = slot scope s x >>= slots scope ss
 
--- [ "old" C ]
-unfoldable pub delete_context_of : Anchor → Parser FallibleCall
-delete_context_of anchor = take_token >> fallible.DeleteContextOf anchor <$> old
+-- what ends a call
+abbrev pub tail : Tail → Operands → Parser Operands
+tail last.Nothing x = pure x
+tail last.With x = (λ c. record x { optional = c }) <$> with_context
+tail last.Old x = (λ c. record x { optional = c }) <$> old
+tail last.OtherOld x = (λ c. record x { optional = c }) <$> other_old x.context
+tail last.Status x = (λ s. record x { status = s }) <$> status
 
--- "data" [ "context" C ]
-unfoldable pub insert_io : Parser FallibleCall
-insert_io = take_token >> expect k.Data >> fallible.InsertIo <$> with_context
+-- the word of a call, and its operands
+unfoldable pub operands : Scope → List Slot → Tail → Parser Operands
+operands scope ss t = take_token >> slots scope ss unfilled >>= tail t
 
--- O "context" C
-unfoldable pub remove_next_io : Parser FallibleCall
-remove_next_io = do
-  take_token
-  o ← removed_variable
-  expect k.Context
-  c ← context_variable
-  pure (fallible.RemoveNextIo o c)
-
--- a call of the queue, by what it does with it
-abbrev pub queue_by : QueueCall → Parser FallibleCall
-queue_by queued.Insert = insert_io
-queue_by queued.RemoveNext = remove_next_io
-
--- a call of the queue, without which its word is unknown
-unfoldable pub queue_call : Scope → QueueCall → Parser FallibleCall
-queue_call scope call = in_queue scope (queue_by call)
-
--- "data" NAME [ "context" C ]
-unfoldable pub queue_deferred : Scope → Parser FallibleCall
-queue_deferred scope = do
-  take_token
-  expect k.Data
-  r ← routine scope
-  c ← with_context
-  pure (fallible.QueueDeferredIoWorkItem r c)
-
--- NAME [ "context" C ]
-unfoldable pub queue_generic : Scope → Parser FallibleCall
-queue_generic scope = do
-  take_token
-  r ← routine scope
-  c ← with_context
-  pure (fallible.QueueGenericWorkItem r c)
+-- ---- calls
 
 -- fallible, by its shape
-abbrev pub fallible_by : Scope → FallibleShape → Parser FallibleCall
-fallible_by scope (shapes.Obtain source) = obtain_context source
-fallible_by scope (shapes.Set anchor) = set_context anchor
-fallible_by scope (shapes.Delete anchor) = delete_context_of anchor
-fallible_by scope (shapes.Queue call) = queue_call scope call
-fallible_by scope shapes.QueueDeferred = queue_deferred scope
-fallible_by scope shapes.QueueGeneric = queue_generic scope
+abbrev pub fallible_by : Scope → FallibleShape → Parser (FallibleCall Routine)
+fallible_by scope s = λ i.
+    if is_known scope.queue s then (fallible_of s <$> operands scope (fallible_slots s) (fallible_tail s)) i else fail E04 i
 
 -- fallible
-unfoldable pub fallible_call : Scope → Parser FallibleCall
+unfoldable pub fallible_call : Scope → Parser (FallibleCall Routine)
 fallible_call scope = λ i. given (fallible_shape_of (kind i)) (fallible_by scope) refuse i
-
--- ---- calls that always succeed
-
--- C
-unfoldable pub end_context : ContextEnd → Parser PlainCall
-end_context how = take_token >> ending how <$> context_variable
-
--- C "as" C
-unfoldable pub reference_context : Parser PlainCall
-reference_context = do
-  take_token
-  c ← context_variable
-  expect k.As
-  d ← other_context c
-  pure (plain.ReferenceContext c d)
-
--- NAME of a lock
-unfoldable pub lock_call : Scope → LockCall → Parser PlainCall
-lock_call scope call = take_token >> locking call <$> lock_named scope (lock_kind call)
-
--- D status
-unfoldable pub complete_pre : Parser PlainCall
-complete_pre = do
-  take_token
-  d ← operation_variable
-  s ← status
-  pure (plain.CompletePendedPreOperation d s)
-
--- "data"
-unfoldable pub complete_post : Parser PlainCall
-complete_post = take_token >> expect k.Data >> pure plain.CompletePendedPostOperation
 
 -- plain, by its shape
 abbrev pub plain_by : Scope → PlainShape → Parser PlainCall
-plain_by scope (plain_shapes.End how) = end_context how
-plain_by scope plain_shapes.Reference = reference_context
-plain_by scope (plain_shapes.Lock call) = lock_call scope call
-plain_by scope plain_shapes.CompletePre = complete_pre
-plain_by scope plain_shapes.CompletePost = complete_post
+plain_by scope s = plain_of s <$> operands scope (plain_slots s) (plain_tail s)
 
 -- plain
 unfoldable pub plain_call : Scope → Parser PlainCall

@@ -1,6 +1,6 @@
--- The grammar of statuses and of calls. Each constructor is a production.
-use Rattle.std.specs.Prelude.{◌≡◌, ◌≢◌, true, Option, Some, None}
-use Rattle.flt_rules.specs.declared.call.Anchor.{Anchor}
+-- The grammar of statuses and of calls. Each constructor is a production. A call is its word, the slots of the shape that the word says,
+-- one token each, and what ends it: the tables are in Shape.antt.
+use Rattle.std.specs.Prelude.{◌≡◌, ◌≢◌, true, List, [], ◌∷◌, Option, Some, None}
 use Rattle.flt_rules.specs.declared.call.Existing.{Existing}
 use Rattle.flt_rules.specs.declared.call.LockKind.{LockKind}
 use Rattle.flt_rules.specs.declared.call.LockNumber.{LockNumber}
@@ -9,23 +9,22 @@ use Rattle.flt_syntax.specs.Cursor.{Input, position}
 use Rattle.flt_tree.specs.Names.{Text}
 use Rattle.flt_syntax.specs.Scope.{Scope}
 use Rattle.flt_tree.specs.Declarations.{lock_number}
-use Rattle.flt_syntax.specs.Shape.{obtaining, ending, lock_kind, locking}
-use Rattle.flt_syntax.specs.Tables.{fallible_shape_of, plain_shape_of, existing_of, final_status_of}
-use Rattle.flt_syntax.specs.Tables.{bare_status_of, removed_variable_of, operation_variable_of}
+use Rattle.flt_syntax.specs.Tables.{fallible_shape_of, plain_shape_of, existing_of, final_status_of, bare_status_of, removed_variable_of}
+use Rattle.flt_syntax.specs.Tables.{operation_variable_of}
+use Rattle.flt_syntax.specs.Shape.{unfilled, fallible_slots, fallible_tail, fallible_of, is_known, plain_slots, plain_tail, plain_of}
 use Rattle.flt_syntax.specs.Words.{Next, Meant, NameAt, ContextAt, OptionalAt}
 use Rattle.flt_tree.specs.declared.filter.FallibleCall.{FallibleCall}
-use Rattle.flt_tree.specs.declared.filter.FallibleCall.TheVariants as fallible
 use Rattle.flt_tree.specs.declared.filter.PlainCall.{PlainCall}
-use Rattle.flt_tree.specs.declared.filter.PlainCall.TheVariants as plain
 use Rattle.flt_tree.specs.declared.filter.Routine.{Routine}
 use Rattle.flt_tree.specs.declared.filter.Status.{Status}
 use Rattle.flt_tree.specs.declared.filter.Status.TheVariants as statuses
-use Rattle.flt_syntax.specs.declared.shape.ContextEnd.{ContextEnd}
-use Rattle.flt_syntax.specs.declared.shape.ContextSource.{ContextSource}
-use Rattle.flt_syntax.specs.declared.shape.FallibleShape.TheVariants as shapes
-use Rattle.flt_syntax.specs.declared.shape.LockCall.{LockCall}
-use Rattle.flt_syntax.specs.declared.shape.PlainShape.TheVariants as plain_shapes
-use Rattle.flt_syntax.specs.declared.shape.QueueCall.TheVariants as queued
+use Rattle.flt_syntax.specs.declared.shape.FallibleShape.{FallibleShape}
+use Rattle.flt_syntax.specs.declared.shape.Operands.{Operands}
+use Rattle.flt_syntax.specs.declared.shape.PlainShape.{PlainShape}
+use Rattle.flt_syntax.specs.declared.shape.Slot.{Slot}
+use Rattle.flt_syntax.specs.declared.shape.Slot.TheVariants as part
+use Rattle.flt_syntax.specs.declared.shape.Tail.{Tail}
+use Rattle.flt_syntax.specs.declared.shape.Tail.TheVariants as last
 use Rattle.flt_syntax.specs.declared.token.Kind.TheVariants as k
 use Rattle.flt_tree.specs.declared.variable.ContextVariable.{ContextVariable}
 use Rattle.flt_tree.specs.declared.variable.OperationVariable.{OperationVariable}
@@ -59,52 +58,69 @@ pub data LockAt (scope : Scope) (kind : LockKind) : Input → LockNumber → Inp
   lock : {i o : Input} {name : Text} {l : LockNumber} → NameAt scope.text i name o → lock_number kind name scope.locks ≡ Some l →
       LockAt scope kind i l o
 
--- fallible, by the shape that its word says; a variable stands once in a call, and the calls of the queue want one
-pub data FallibleAt (scope : Scope) : Input → FallibleCall → Input → Type 0 where
-  -- ("FltAllocateContext" | "FltGetStreamContext" | "FltGetInstanceContext") C
-  obtain : {i a o : Input} {s : ContextSource} {c : ContextVariable} → Meant fallible_shape_of i (shapes.Obtain s) a → ContextAt a c o →
-      FallibleAt scope i (obtaining s c) o
-  -- ("FltSetStreamContext" | "FltSetInstanceContext") ("KEEP_IF_EXISTS" | "REPLACE_IF_EXISTS") C [ "old" C ]
-  set_context : {i a b l o : Input} {x : Anchor} {e : Existing} {c : ContextVariable} {d : Option ContextVariable} →
-      Meant fallible_shape_of i (shapes.Set x) a → Meant existing_of a e b → ContextAt b c l → OptionalAt k.Old l d o → d ≢ Some c →
-      FallibleAt scope i (fallible.SetContext x e c d) o
-  -- ("FltDeleteStreamContext" | "FltDeleteInstanceContext") [ "old" C ]
-  delete_context_of : {i a o : Input} {x : Anchor} {d : Option ContextVariable} → Meant fallible_shape_of i (shapes.Delete x) a →
-      OptionalAt k.Old a d o → FallibleAt scope i (fallible.DeleteContextOf x d) o
-  -- "FltCbdqInsertIo" "data" [ "context" C ]
-  insert_io : {i a b o : Input} {c : Option ContextVariable} → scope.queue ≡ true →
-      Meant fallible_shape_of i (shapes.Queue queued.Insert) a → Next k.Data a b → OptionalAt k.Context b c o →
-      FallibleAt scope i (fallible.InsertIo c) o
-  -- "FltCbdqRemoveNextIo" O "context" C
-  remove_next_io : {i a b l o : Input} {x : RemovedVariable} {c : ContextVariable} → scope.queue ≡ true →
-      Meant fallible_shape_of i (shapes.Queue queued.RemoveNext) a → Meant removed_variable_of a x b →
-      Next k.Context b l → ContextAt l c o →
-      FallibleAt scope i (fallible.RemoveNextIo x c) o
-  -- "FltQueueDeferredIoWorkItem" "data" NAME [ "context" C ]
-  queue_deferred : {i a b l o : Input} {r : Routine} {c : Option ContextVariable} → Meant fallible_shape_of i shapes.QueueDeferred a →
-      Next k.Data a b → RoutineAt scope.text b r l → OptionalAt k.Context l c o →
-      FallibleAt scope i (fallible.QueueDeferredIoWorkItem r c) o
-  -- "FltQueueGenericWorkItem" NAME [ "context" C ]
-  queue_generic : {i a b o : Input} {r : Routine} {c : Option ContextVariable} → Meant fallible_shape_of i shapes.QueueGeneric a →
-      RoutineAt scope.text a r b → OptionalAt k.Context b c o → FallibleAt scope i (fallible.QueueGenericWorkItem r c) o
+-- ---- slots
 
--- plain, by the shape that its word says; a variable stands once in a call
+-- a slot: the operands before it are x, and with it the others; a variable stands once in a call
+pub data SlotAt (scope : Scope) : Slot → Operands → Input → Operands → Input → Type 0 where
+  -- "data"
+  data_word : {x : Operands} {i o : Input} → Next k.Data i o → SlotAt scope part.Data x i x o
+  -- "as"
+  as_word : {x : Operands} {i o : Input} → Next k.As i o → SlotAt scope part.As x i x o
+  -- "context"
+  context_word : {x : Operands} {i o : Input} → Next k.Context i o → SlotAt scope part.With x i x o
+  -- D
+  operation : {x : Operands} {i o : Input} {d : OperationVariable} → Meant operation_variable_of i d o →
+      SlotAt scope part.Operation x i (record x { operation = d }) o
+  -- O
+  removed : {x : Operands} {i o : Input} {v : RemovedVariable} → Meant removed_variable_of i v o →
+      SlotAt scope part.Removed x i (record x { removed = v }) o
+  -- "KEEP_IF_EXISTS" | "REPLACE_IF_EXISTS"
+  existing : {x : Operands} {i o : Input} {e : Existing} → Meant existing_of i e o →
+      SlotAt scope part.Existing x i (record x { existing = e }) o
+  -- C
+  context : {x : Operands} {i o : Input} {c : ContextVariable} → ContextAt i c o →
+      SlotAt scope part.Context x i (record x { context = c }) o
+  -- C, another one
+  other : {x : Operands} {i o : Input} {d : ContextVariable} → ContextAt i d o → d ≢ x.context →
+      SlotAt scope part.Other x i (record x { other = d }) o
+  -- NAME of a routine
+  routine_name : {x : Operands} {i o : Input} {r : Routine} → RoutineAt scope.text i r o →
+      SlotAt scope part.Routine x i (record x { routine = r }) o
+  -- NAME of a declared lock of the kind
+  lock_name : {x : Operands} {i o : Input} {kind : LockKind} {l : LockNumber} → LockAt scope kind i l o →
+      SlotAt scope (part.Lock kind) x i (record x { lock = l }) o
+
+-- { slot }
+pub data SlotsAt (scope : Scope) : List Slot → Operands → Input → Operands → Input → Type 0 where
+  no_slots : {x : Operands} {i : Input} → SlotsAt scope [] x i x i
+  slot : {x y z : Operands} {i a o : Input} {s : Slot} {ss : List Slot} → SlotAt scope s x i y a → SlotsAt scope ss y a z o →
+      SlotsAt scope (s ∷ ss) x i z o
+
+-- what ends a call
+pub data TailAt : Tail → Operands → Input → Operands → Input → Type 0 where
+  nothing : {x : Operands} {i : Input} → TailAt last.Nothing x i x i
+  -- [ "context" C ]
+  with_context : {x : Operands} {i o : Input} {c : Option ContextVariable} → OptionalAt k.Context i c o →
+      TailAt last.With x i (record x { optional = c }) o
+  -- [ "old" C ]
+  old : {x : Operands} {i o : Input} {c : Option ContextVariable} → OptionalAt k.Old i c o →
+      TailAt last.Old x i (record x { optional = c }) o
+  -- [ "old" C ], another C
+  other_old : {x : Operands} {i o : Input} {c : Option ContextVariable} → OptionalAt k.Old i c o → c ≢ Some x.context →
+      TailAt last.OtherOld x i (record x { optional = c }) o
+  -- status
+  status : {x : Operands} {i o : Input} {s : Status} → StatusAt i s o → TailAt last.Status x i (record x { status = s }) o
+
+-- ---- calls
+
+-- fallible; the calls of the queue want one
+pub data FallibleAt (scope : Scope) : Input → FallibleCall Routine → Input → Type 0 where
+  -- word { slot } tail
+  fallible : {i a b o : Input} {s : FallibleShape} {x y : Operands} → Meant fallible_shape_of i s a → is_known scope.queue s ≡ true →
+      SlotsAt scope (fallible_slots s) unfilled a x b → TailAt (fallible_tail s) x b y o → FallibleAt scope i (fallible_of s y) o
+
+-- plain
 pub data PlainAt (scope : Scope) : Input → PlainCall → Input → Type 0 where
-  -- ("FltDeleteContext" | "FltReleaseContext") C
-  end_context : {i a o : Input} {e : ContextEnd} {c : ContextVariable} → Meant plain_shape_of i (plain_shapes.End e) a → ContextAt a c o →
-      PlainAt scope i (ending e c) o
-  -- "FltReferenceContext" C "as" C
-  reference : {i a b l o : Input} {c d : ContextVariable} →
-      Meant plain_shape_of i plain_shapes.Reference a → ContextAt a c b → Next k.As b l → ContextAt l d o → d ≢ c →
-      PlainAt scope i (plain.ReferenceContext c d) o
-  -- ("KeAcquireSpinLock" | "KeReleaseSpinLock" | "ExAcquireFastMutex" | "ExReleaseFastMutex" | "FltAcquirePushLockExclusive" |
-  -- "FltAcquirePushLockShared" | "FltReleasePushLock") NAME
-  lock_call : {i a o : Input} {x : LockCall} {l : LockNumber} → Meant plain_shape_of i (plain_shapes.Lock x) a →
-      LockAt scope (lock_kind x) a l o → PlainAt scope i (locking x l) o
-  -- "FltCompletePendedPreOperation" D status
-  complete_pre : {i a b o : Input} {d : OperationVariable} {s : Status} →
-      Meant plain_shape_of i plain_shapes.CompletePre a → Meant operation_variable_of a d b → StatusAt b s o →
-      PlainAt scope i (plain.CompletePendedPreOperation d s) o
-  -- "FltCompletePendedPostOperation" "data"
-  complete_post : {i a o : Input} → Meant plain_shape_of i plain_shapes.CompletePost a → Next k.Data a o →
-      PlainAt scope i plain.CompletePendedPostOperation o
+  -- word { slot } tail
+  plain : {i a b o : Input} {s : PlainShape} {x y : Operands} → Meant plain_shape_of i s a →
+      SlotsAt scope (plain_slots s) unfilled a x b → TailAt (plain_tail s) x b y o → PlainAt scope i (plain_of s y) o

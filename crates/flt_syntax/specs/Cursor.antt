@@ -210,8 +210,8 @@ Reads outcome (Ok a) new = outcome ≡ Ok (a, new)
 Reads outcome (Err OutOfMemory) new = Unit {0}
 Reads outcome (Err (Syntax f)) new = outcome ≡ Err f
 
--- The same of what a function puts behind a list: `more` is the list as it is then.
-abbrev pub ReadsOnto : {A : Type 0} → Outcome (List A) → Result (Unit {0}) ParseError → List A → Input → Type 0
+-- The same of what a function puts into a value that it was lent: `more` is the value as it is then.
+abbrev pub ReadsOnto : {A : Type 0} → Outcome A → Result (Unit {0}) ParseError → A → Input → Type 0
 ReadsOnto outcome (Ok u) more new = outcome ≡ Ok (more, new)
 ReadsOnto outcome (Err OutOfMemory) more new = Unit {0}
 ReadsOnto outcome (Err (Syntax f)) more new = outcome ≡ Err f

@@ -23,6 +23,7 @@ pub mod StatementFails
 pub mod Status
 pub mod Tables
 pub mod TextFails
+pub mod Texts
 pub mod Vocabulary
 pub mod Whole
 pub mod WordFails

@@ -4,7 +4,7 @@ use Rattle.std.specs.Prelude.{◌≡◌, ◌≢◌, ℕ, false, List, Option}
 use Rattle.flt_syntax.specs.ActionGrammar as acting
 use Rattle.flt_syntax.specs.ActionGrammar.{ExpressionAt, ActionAt, ConditionAt}
 use Rattle.flt_syntax.specs.CallGrammar as calling
-use Rattle.flt_syntax.specs.CallGrammar.{StatusAt, OptionalStatusAt, FallibleAt, PlainAt}
+use Rattle.flt_syntax.specs.CallGrammar.{StatusAt, OptionalStatusAt, TailAt, FallibleAt, PlainAt}
 use Rattle.flt_syntax.specs.Cursor.{Input, kind}
 use Rattle.flt_syntax.specs.Grammar as grammar
 use Rattle.flt_syntax.specs.Grammar.{StatementAt, ElseAt, QueueAt}
@@ -17,10 +17,13 @@ use Rattle.flt_tree.specs.declared.filter.Condition.{Condition}
 use Rattle.flt_tree.specs.declared.filter.FallibleCall.{FallibleCall}
 use Rattle.flt_tree.specs.declared.filter.PlainCall.{PlainCall}
 use Rattle.flt_tree.specs.declared.filter.Position.{Position}
+use Rattle.flt_tree.specs.declared.filter.Routine.{Routine}
 use Rattle.flt_tree.specs.declared.filter.Statement.{Statement}
 use Rattle.flt_tree.specs.declared.filter.Status.{Status}
 use Rattle.flt_tree.specs.declared.variable.ContextVariable.{ContextVariable}
 use Rattle.flt_tree.specs.declared.variable.Expression.{Expression}
+use Rattle.flt_syntax.specs.declared.shape.Operands.{Operands}
+use Rattle.flt_syntax.specs.declared.shape.Tail.{Tail}
 use Rattle.flt_syntax.specs.declared.token.Kind.{Kind}
 use Rattle.flt_syntax.specs.declared.token.Kind.TheVariants as k
 
@@ -40,19 +43,21 @@ abbrev pub OptionalStatusOver : {i o : Input} {s : Option Status} → OptionalSt
 OptionalStatusOver (calling.no_status {i = i}) = begins_status (kind i) ≡ false
 OptionalStatusOver (calling.some_status p) = StatusOver p
 
+-- what ends a call
+abbrev pub TailOver : {t : Tail} {x y : Operands} {i o : Input} → TailAt t x i y o → Type 0
+TailOver calling.nothing = Unit {0}
+TailOver (calling.with_context p) = OptionalOver p
+TailOver (calling.old p) = OptionalOver p
+TailOver (calling.other_old p h) = OptionalOver p
+TailOver (calling.status p) = StatusOver p
+
 -- fallible
-abbrev pub FallibleOver : {scope : Scope} {i o : Input} {c : FallibleCall} → FallibleAt scope i c o → Type 0
-FallibleOver (calling.set_context n p q x h) = OptionalOver x
-FallibleOver (calling.delete_context_of n p) = OptionalOver p
-FallibleOver (calling.insert_io q n m p) = OptionalOver p
-FallibleOver (calling.queue_deferred n m p q) = OptionalOver q
-FallibleOver (calling.queue_generic n p q) = OptionalOver q
-FallibleOver _ = Unit {0}
+abbrev pub FallibleOver : {scope : Scope} {i o : Input} {c : FallibleCall Routine} → FallibleAt scope i c o → Type 0
+FallibleOver (calling.fallible n q p t) = TailOver t
 
 -- plain
 abbrev pub PlainOver : {scope : Scope} {i o : Input} {c : PlainCall} → PlainAt scope i c o → Type 0
-PlainOver (calling.complete_pre n p q) = StatusOver q
-PlainOver _ = Unit {0}
+PlainOver (calling.plain n p t) = TailOver t
 
 -- atom [ ("+" | "-") atom ]
 abbrev pub ExpressionOver : {i o : Input} {x : Expression} → ExpressionAt i x o → Type 0

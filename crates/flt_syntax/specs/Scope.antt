@@ -1,8 +1,8 @@
 -- What a text declares before its callbacks, and how the names are read that its calls use.
-use Rattle.std.specs.Prelude.{Bool, if◌then◌else◌, List}
+use Rattle.std.specs.Prelude.{Bool, List}
 use Rattle.flt_rules.specs.declared.call.LockKind.{LockKind}
 use Rattle.flt_rules.specs.declared.call.LockNumber.{LockNumber}
-use Rattle.flt_syntax.specs.Cursor.{Parser, and_then, ◌>>=◌, pure, place, bytes_of, fault_at, found_or, name, fail}
+use Rattle.flt_syntax.specs.Cursor.{Parser, and_then, ◌>>=◌, pure, place, bytes_of, fault_at, found_or, name}
 use Rattle.flt_tree.specs.Declarations.{lock_number}
 use Rattle.flt_tree.specs.Names.{Text}
 use Rattle.flt_syntax.specs.declared.fault.FaultKind.TheVariants.{E04}
@@ -37,7 +37,3 @@ routine scope = do
   at ← place
   name ← spelled scope.text
   pure (record { name = name; position = at })
-
--- a call that needs the queue, without which it is an unknown name
-abbrev pub in_queue : {A : Type 0} → Scope → Parser A → Parser A
-in_queue scope p = λ i. if scope.queue then p i else fail E04 i

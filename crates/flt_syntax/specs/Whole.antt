@@ -14,6 +14,7 @@ use Rattle.flt_tree.specs.declared.filter.Filter.{Filter}
 use Rattle.flt_tree.specs.declared.filter.Head.{Head}
 use Rattle.flt_tree.specs.declared.filter.Head.TheVariants.{Canceled}
 use Rattle.flt_tree.specs.declared.filter.Position.{Position}
+use Rattle.flt_tree.specs.declared.filter.Routine.{Routine}
 use Rattle.flt_tree.specs.declared.filter.Statement.{Statement}
 use Rattle.flt_tree.specs.declared.filter.Statement.TheOpen.{Statement-F}
 use Rattle.flt_tree.specs.declared.filter.Statement.TheFolds.{fold-Statement}
@@ -35,7 +36,7 @@ abbrev pub unless : Bool → Position → Option Position
 unless found at = if found then None else Some at
 
 -- where a call names a routine that is not among the callbacks, or not of the kind asked
-abbrev pub missing_in : List Callback → Head → FallibleCall → Option Position
+abbrev pub missing_in : List Callback → Head → FallibleCall Routine → Option Position
 missing_in cs from (QueueDeferredIoWorkItem r context) = unless (has_deferred from r.name cs) r.position
 missing_in cs from (QueueGenericWorkItem r context) = unless (has_generic r.name cs) r.position
 missing_in cs from _ = None

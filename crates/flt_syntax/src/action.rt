@@ -17,6 +17,7 @@ use crate::scope::Scope;
 use crate::status::optional_status;
 use crate::token::Kind;
 use flt_tree::{Action, ContextVariable, Expression, NumberVariable, RemovedVariable, Statement};
+use std::alloc::Global;
 
 #[tactic(auto, unfolding(crate::specs::Action::expression))]
 fn expression(tokens: &mut Tokens<'_>) -> Result<Expression, ParseError>
@@ -89,6 +90,7 @@ fn write_value(tokens: &mut Tokens<'_>) -> Result<Action, ParseError>
 /// A statement without blocks that begins with a word of its own. There is room for it.
 #[tactic(auto, unfolding(crate::specs::Action::word_statement))]
 fn word_statement(
+    alloc: Global,
     scope: &Scope<'_>,
     tokens: &mut Tokens<'_>,
     stack: &mut Vec<Statement>,
@@ -109,7 +111,7 @@ fn word_statement(
             stack.push_reserved(Statement::Return(span(from, tokens.rest), status));
         }
         _ => {
-            let call = plain_call(scope, tokens)?;
+            let call = plain_call(alloc, scope, tokens)?;
             stack.push_reserved(Statement::Call(span(from, tokens.rest), call));
         }
     }
@@ -119,6 +121,7 @@ fn word_statement(
 /// A statement without blocks. It is put onto the stack where it is made, since a statement is large.
 #[tactic(auto, unfolding(crate::specs::Action::simple_statement))]
 pub fn simple_statement(
+    alloc: Global,
     scope: &Scope<'_>,
     tokens: &mut Tokens<'_>,
     stack: &mut Vec<Statement>,
@@ -144,5 +147,5 @@ pub fn simple_statement(
         stack.push_reserved(Statement::Act(span(from, tokens.rest), action));
         return Ok(());
     }
-    word_statement(scope, tokens, stack)
+    word_statement(alloc, scope, tokens, stack)
 }

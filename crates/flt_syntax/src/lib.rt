@@ -18,6 +18,7 @@ mod shape;
 mod spelled;
 mod statement;
 mod status;
+mod texts;
 mod token;
 mod vocabulary;
 mod whole;
@@ -33,6 +34,11 @@ pub use flt_tree::{
     Statement, Status, Test, Tree, named_context,
 };
 pub use lex::{reads_back_words, same_kind, tokens};
+pub use shape::{
+    ContextEnd, ContextSource, FallibleShape, LockCall, PlainShape, QueueCall, Slot, Tail,
+    fallible_shape_of, plain_shape_of, slots_of,
+};
 pub use spelled::spelled_is_read;
+pub use texts::{TextsFault, parse_all};
 pub use token::{Kind, Token, Word};
 pub use vocabulary::keywords;

@@ -131,7 +131,7 @@ fn statement(
     match tokens.peek() {
         Kind::If => choice(alloc, scope, tokens, depth, repeats, stack),
         Kind::Repeat => repetition(alloc, scope, tokens, depth, repeats, stack),
-        _ => simple_statement(scope, tokens, stack),
+        _ => simple_statement(alloc, scope, tokens, stack),
     }
 }
 

@@ -7,7 +7,7 @@ ghost use Rattle.std.specs.Prelude.{◌≡◌};
 use crate::cursor::fault;
 use crate::fault::{FaultKind, SyntaxFault};
 use crate::head::has_event;
-use flt_tree::{Callback, Condition, FallibleCall, Filter, Head, Position, Statement};
+use flt_tree::{Callback, Condition, FallibleCall, Filter, Head, Position, Routine, Statement};
 
 /// Whether a deferred work item that is queued in a callback of the head `from` may run this callback.
 fn runs_deferred(from: &Head, name: &[u8], head: &Head) -> bool
@@ -49,7 +49,7 @@ fn unless(found: bool, at: Position) -> Option<Position>
 }
 
 /// The place in a call of the name of a routine that isn't there.
-fn missing_in(callbacks: &[Callback], from: &Head, call: &FallibleCall) -> Option<Position>
+fn missing_in(callbacks: &[Callback], from: &Head, call: &FallibleCall<Routine>) -> Option<Position>
     ensures { result ≡ spec.missing_in callbacks.now from.now call.now }
 {
     match call {

@@ -2,7 +2,8 @@
 
 use crate::dice::Dice;
 use counted_heap::Heap;
-use flt_ops::{CallbackStart, Frame, Operations, Outcome, Position, Way};
+use flt_model::{Outcome, Position, Way};
+use flt_ops::{CallbackStart, Frame, Operations};
 use flt_rules::{FinalStatus, Mode, Operation, Stage};
 use std::alloc::{AllocError, Global};
 use std::test::Fail;

@@ -2,9 +2,9 @@
 //! which texts are no certificates.
 
 use flt_cert::{Cert, CertFault, ThinCert, read, thin, write, write_full};
-use flt_check::{Refusal, check, fill};
+use flt_check::{check, fill};
 use flt_graph::{Graph, lower};
-use flt_rules::number;
+use flt_rules::{Refusal, number};
 use flt_syntax::parse;
 use std::alloc::Global;
 use std::test::*;

@@ -20,6 +20,7 @@ use Rattle.flt_tree.specs.declared.filter.Head.{Head}
 use Rattle.flt_tree.specs.declared.filter.Head.TheVariants.{Pre, Post, Canceled, DeferredPre, DeferredPost, Generic}
 use Rattle.flt_tree.specs.declared.filter.Lock.{Lock}
 use Rattle.flt_tree.specs.declared.filter.Position.{Position}
+use Rattle.flt_tree.specs.declared.filter.Routine.{Routine}
 use Rattle.flt_tree.specs.declared.filter.Statement.{Statement}
 use Rattle.flt_tree.specs.declared.filter.Statement.TheOpen.{Statement-F}
 use Rattle.flt_tree.specs.declared.filter.Statement.TheFolds.{fold-Statement}
@@ -131,7 +132,7 @@ abbrev pub has_generic : Text → List Callback → Bool
 has_generic name = list_any (λ c. runs_generic name c.head)
 
 -- whether the routine that a call in a callback of the head names, if it names one, is there and of the kind asked
-abbrev pub finds_routine : List Callback → Head → FallibleCall → Bool
+abbrev pub finds_routine : List Callback → Head → FallibleCall Routine → Bool
 finds_routine cs from (QueueDeferredIoWorkItem r context) = has_deferred from r.name cs
 finds_routine cs from (QueueGenericWorkItem r context) = has_generic r.name cs
 finds_routine cs from _ = true

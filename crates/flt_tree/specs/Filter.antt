@@ -10,6 +10,8 @@ use Rattle.flt_rules.specs.declared.status.StatusWord.TheVariants as word
 use Rattle.flt_tree.specs.declared.filter.Head.{Head}
 use Rattle.flt_tree.specs.declared.filter.Head.TheVariants as head
 use Rattle.flt_tree.specs.declared.filter.Span.{Span}
+use Rattle.flt_tree.specs.declared.filter.Statement.{Statement}
+use Rattle.flt_tree.specs.declared.filter.Statement.TheOpen.{Statement-F}
 use Rattle.flt_tree.specs.declared.filter.Status.{Status}
 use Rattle.flt_tree.specs.declared.filter.Status.TheVariants as status
 use Rattle.flt_tree.specs.declared.variable.ContextVariable.{ContextVariable}
@@ -19,6 +21,14 @@ use Rattle.flt_tree.specs.declared.variable.ContextVariable.{ContextVariable}
 -- nowhere
 abbrev pub no_span : Span
 no_span = record { line = 0; start = 0; end = 0 }
+
+-- where a statement stands
+abbrev pub span_of : Statement-F Statement → Span
+span_of (Statement-F.Act span action) = span
+span_of (Statement-F.Call span call) = span
+span_of (Statement-F.Return span status) = span
+span_of (Statement-F.If span condition granted refused) = span
+span_of (Statement-F.Repeat span turns body) = span
 
 -- ---- statuses
 

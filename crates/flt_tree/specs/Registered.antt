@@ -1,11 +1,13 @@
 -- What a filter is registered for, and the numbers of its routines, from 0. Source: FLT_REGISTRATION in the driver kit.
-use Rattle.std.specs.Prelude.{ℕ, Bool, not, ◌||◌, List, [], ◌∷◌, Option, position}
+use Rattle.std.specs.Prelude.{ℕ, Bool, not, ◌||◌, List, [], ◌∷◌}
 use Rattle.std.specs.List.{list_all, position_or_len}
 use Rattle.flt_rules.specs.declared.place.Operation.{Operation}
 use Rattle.flt_rules.specs.declared.place.Operation.TheVariants.{Create, Read, Write, Cleanup}
 use Rattle.flt_tree.specs.Declarations.{same_event, has_event}
 use Rattle.flt_tree.specs.Filter.{is_named}
 use Rattle.flt_tree.specs.declared.filter.Callback.{Callback}
+use Rattle.flt_tree.specs.declared.filter.FallibleCall.{FallibleCall}
+use Rattle.flt_tree.specs.declared.filter.FallibleCall.TheVariants as fallible
 use Rattle.flt_tree.specs.declared.filter.Head.{Head}
 use Rattle.flt_tree.specs.declared.filter.Head.TheVariants.{Pre, Post}
 use Rattle.flt_tree.specs.declared.filter.Routine.{Routine}
@@ -38,10 +40,17 @@ are_paired cs = list_all (is_paired cs) (Create ∷ Read ∷ Write ∷ Cleanup �
 
 -- ---- routines
 
--- the number of the routine that a call names, if there is one
-abbrev pub routine_at : List Callback → Routine → Option ℕ
-routine_at cs r = position (λ (c : Callback). is_named r.name c.head) cs
-
--- the same number; past all callbacks where there is none
+-- the number of the routine that a call names; past all callbacks where there is none
 abbrev pub routine_of : List Callback → Routine → ℕ
 routine_of cs r = position_or_len (λ (c : Callback). is_named r.name c.head) cs
+
+-- a call that can fail, which names its routine by number
+abbrev pub numbered : List Callback → FallibleCall Routine → FallibleCall ℕ
+numbered cs (fallible.AllocateContext d) = fallible.AllocateContext d
+numbered cs (fallible.GetContext on d) = fallible.GetContext on d
+numbered cs (fallible.SetContext on existing c old) = fallible.SetContext on existing c old
+numbered cs (fallible.DeleteContextOf on old) = fallible.DeleteContextOf on old
+numbered cs (fallible.InsertIo c) = fallible.InsertIo c
+numbered cs (fallible.RemoveNextIo o d) = fallible.RemoveNextIo o d
+numbered cs (fallible.QueueDeferredIoWorkItem r c) = fallible.QueueDeferredIoWorkItem (routine_of cs r) c
+numbered cs (fallible.QueueGenericWorkItem r c) = fallible.QueueGenericWorkItem (routine_of cs r) c

@@ -22,6 +22,7 @@ use Rattle.flt_tree.specs.declared.filter.Head.TheVariants.{DeferredPre, Deferre
 use Rattle.flt_tree.specs.declared.filter.Lock.{Lock}
 use Rattle.flt_tree.specs.declared.filter.PlainCall.{PlainCall}
 use Rattle.flt_tree.specs.declared.filter.PlainCall.TheVariants as plain
+use Rattle.flt_tree.specs.declared.filter.Routine.{Routine}
 use Rattle.flt_tree.specs.declared.filter.Span.{Span}
 use Rattle.flt_tree.specs.declared.filter.Statement.{Statement}
 use Rattle.flt_tree.specs.declared.filter.Statement.TheVariants.{Act, Call, Return, If, Repeat}
@@ -54,7 +55,7 @@ IsTest (Less n x) = IsAtom x
 IsTest _ = Unit {0}
 
 -- a variable stands once in a call, and the calls of the queue want one
-abbrev pub IsFallible : Bool → FallibleCall → Type 0
+abbrev pub IsFallible : Bool → FallibleCall Routine → Type 0
 IsFallible queue (fallible.SetContext anchor existing c old) = old ≢ Some c
 IsFallible queue (fallible.InsertIo c) = queue ≡ true
 IsFallible queue (fallible.RemoveNextIo o c) = queue ≡ true

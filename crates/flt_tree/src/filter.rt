@@ -2,6 +2,8 @@
 
 ghost use Rattle.std.specs.Prelude.{◌≡◌};
 ghost use Rattle.flt_tree.specs.Filter as spec;
+ghost use Rattle.flt_tree.specs.Registered as registered;
+ghost use Rattle.flt_tree.specs.declared.filter.Statement.{out-Statement};
 
 use crate::variable::{
     Atom, ContextVariable, Expression, NumberVariable, OperationVariable, RemovedVariable,
@@ -48,9 +50,10 @@ pub struct Routine {
     pub position: Position,
 }
 
-/// A call that can fail. It appears only as the condition of an `if`, whose first block is taken if the call succeeds.
-#[derive(Drop)]
-pub enum FallibleCall {
+/// A call that can fail. It appears only as the condition of an `if`, whose first block is taken if the call succeeds. It names a routine by
+/// an `R`: in a tree that is its name, and where the call is resolved its number among the callbacks.
+#[derive(Clone, Copy, Drop)]
+pub enum FallibleCall<R> {
     /// FltAllocateContext: the variable that receives the context.
     AllocateContext(ContextVariable),
     /// FltGetStreamContext, FltGetInstanceContext: the variable that receives the context.
@@ -65,9 +68,9 @@ pub enum FallibleCall {
     /// FltCbdqRemoveNextIo: the variables that receive the operation and its context.
     RemoveNextIo(RemovedVariable, ContextVariable),
     /// FltQueueDeferredIoWorkItem of `data`, with the context that goes with it.
-    QueueDeferredIoWorkItem(Routine, Option<ContextVariable>),
+    QueueDeferredIoWorkItem(R, Option<ContextVariable>),
     /// FltQueueGenericWorkItem, with the context that goes with it.
-    QueueGenericWorkItem(Routine, Option<ContextVariable>),
+    QueueGenericWorkItem(R, Option<ContextVariable>),
 }
 
 /// A call that always succeeds.
@@ -110,7 +113,7 @@ pub enum Test {
 pub enum Condition {
     Test(Test),
     /// Whether the call succeeds.
-    Succeeds(FallibleCall),
+    Succeeds(FallibleCall<Routine>),
 }
 
 /// A statement that neither calls nor branches.
@@ -233,7 +236,42 @@ impl Status {
     }
 }
 
+impl Statement {
+    /// The place of the statement.
+    pub fn span(&self) -> Span
+        ensures { result ≡ spec.span_of (out-Statement self.now) }
+    {
+        match self {
+            Statement::Act(span, _)
+            | Statement::Call(span, _)
+            | Statement::Return(span, _)
+            | Statement::If(span, _, _, _)
+            | Statement::Repeat(span, _, _) => *span,
+        }
+    }
+}
+
 impl Head {
+    /// Whether the callback is the pre callback of the operation.
+    pub fn is_pre_of(&self, kind: Operation) -> bool
+        ensures { result ≡ registered.is_pre_of kind self.now }
+    {
+        match self {
+            Head::Pre(own) => own.is_same(kind),
+            _ => false,
+        }
+    }
+
+    /// Whether the callback is the post callback of the operation.
+    pub fn is_post_of(&self, kind: Operation) -> bool
+        ensures { result ≡ registered.is_post_of kind self.now }
+    {
+        match self {
+            Head::Post(own) => own.is_same(kind),
+            _ => false,
+        }
+    }
+
     /// The place in which the callback runs.
     pub fn place(&self) -> Place
         ensures { result ≡ spec.head_place self.now }

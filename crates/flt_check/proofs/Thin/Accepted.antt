@@ -13,7 +13,7 @@ use Rattle.flt_graph.specs.declared.graph.Graph.{Graph}
 use Rattle.flt_cert.specs.Format.{Point, Certificate}
 use Rattle.flt_check.specs.Checker.{point_fault, differs, AgreeOnCounts, IsCountFault, NoneBefore, NoneIn, IsFaultless}
 use Rattle.flt_check.specs.Covering.{Covers, count_at}
-use Rattle.flt_check.specs.declared.checker.Refusal.{Refusal}
+use Rattle.flt_rules.specs.declared.refusal.Refusal.{Refusal}
 use Rattle.flt_cert.specs.Thin.{Slot, Thin, is_thin_callback, is_thin, begins}
 use Rattle.flt_check.specs.Full.{full_points, full}
 use Rattle.flt_check.specs.ThinCovering.{AgreeBefore, AgreeIn, GivesKept, CoversThin}

@@ -7,7 +7,7 @@ use Rattle.flt_graph.specs.Graph.{line_at}
 use Rattle.flt_graph.specs.declared.graph.Graph.{Graph}
 use Rattle.flt_cert.specs.Format.{Certificate}
 use Rattle.flt_check.specs.Checker.{IsLeastFault}
-use Rattle.flt_check.specs.declared.checker.Refusal.{Refusal}
+use Rattle.flt_rules.specs.declared.refusal.Refusal.{Refusal}
 use Rattle.flt_cert.specs.Thin.{Thin}
 use Rattle.flt_check.specs.Full.{full}
 use Rattle.flt_check.specs.ThinCovering.{GivesKept}

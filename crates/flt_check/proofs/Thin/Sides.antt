@@ -8,6 +8,7 @@ use Rattle.flt_rules.specs.Table.{row}
 use Rattle.flt_rules.specs.declared.columns.Effects.{Effects}
 use Rattle.flt_rules.specs.declared.rule.Rule.{Rule}
 use Rattle.flt_graph.specs.Graph.{instruction_at}
+use Rattle.flt_graph.specs.Instruction.{roles}
 use Rattle.flt_graph.specs.declared.graph.Graph.{Graph}
 use Rattle.flt_graph.specs.declared.instruction.Instruction.{Instruction}
 use Rattle.flt_graph.specs.declared.instruction.Instruction.TheVariants as instruction
@@ -65,8 +66,9 @@ alone a c h = omega arith
 sides : (x : State) (i : Instruction) (to : ℕ) → hits to (leads_to x i).first + hits to (leads_to x i).second ≤ edges_of i to
 sides x (instruction.Act a next) to = alone (edge next to) (edge next to) (itself (edge next to))
 sides x (instruction.Call c granted failed) to =
-    both (edge granted to) (hits to (after_failure x c (row c.call).on_fail failed)) (edge granted to)
-    (failing (row c.call).on_fail failed to) (itself (edge granted to)) (failure_hits x c (row c.call).on_fail failed to)
+    both (edge granted to) (hits to (after_failure x (roles c) (row (roles c).call).on_fail failed)) (edge granted to)
+    (failing (row (roles c).call).on_fail failed to) (itself (edge granted to))
+    (failure_hits x (roles c) (row (roles c).call).on_fail failed to)
 sides x (instruction.Test t granted refused) to =
     both (hits to (at granted (where_true x t))) (hits to (at refused (where_false x t))) (edge granted to) (edge refused to)
     (at_hits granted to (where_true x t)) (at_hits refused to (where_false x t))

@@ -17,6 +17,7 @@ use Rattle.flt_tree.specs.Names.{Text}
 use Rattle.flt_tree.specs.declared.filter.Status.{Status}
 use Rattle.flt_tree.specs.declared.filter.Status.TheVariants.{DisallowFastIo}
 use Rattle.flt_tree.specs.declared.variable.OperationVariable.TheVariants.{Data}
+use Rattle.flt_graph.specs.Instruction.{roles}
 use Rattle.flt_graph.specs.declared.graph.CallbackGraph.{CallbackGraph}
 use Rattle.flt_graph.specs.declared.graph.Graph.{Graph}
 use Rattle.flt_graph.specs.declared.instruction.Instruction.{Instruction}
@@ -150,7 +151,7 @@ wrong_call x QueueDeferredIoWorkItem st = Deferred
 wrong_call x _ st = wrong_if_given x st
 
 abbrev pub wrong_at : Circumstances → Instruction → Wrong
-wrong_at x (instruction.Call c granted failed) = wrong_call x c.call c.status
+wrong_at x (instruction.Call c granted failed) = wrong_call x (roles c).call (roles c).status
 wrong_at x (instruction.Return st) = wrong_if_returned x st
 wrong_at x _ = Other
 

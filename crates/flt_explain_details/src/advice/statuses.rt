@@ -274,7 +274,10 @@ fn wrong_of(case: &Case<'_>) -> Wrong
     ensures { result ≡ spec.wrong (of_case case.now) }
 {
     match case.instruction() {
-        Instruction::Call(call, _, _) => wrong_call(case, call.call, call.status),
+        Instruction::Call(call, _, _) => {
+            let call = call.roles();
+            wrong_call(case, call.call, call.status)
+        }
         Instruction::Return(status) => wrong_if_returned(case, status),
         _ => Wrong::Other,
     }

@@ -11,7 +11,8 @@ use Rattle.flt_model.specs.declared.event.Object.{Object}
 use Rattle.flt_model.specs.declared.event.Object.TheVariants.{Context, Visit}
 use Rattle.flt_model.specs.Trace.{one_if, of_actor, same_object, gain, lose, gains, loses, is_held}
 use Rattle.flt_model.specs.Violations.{in_queue, in_item}
-use Rattle.flt_model.specs.World.{Store, Entry, is_settled}
+use Rattle.flt_model.specs.declared.parts.Entry.{Entry}
+use Rattle.flt_model.specs.World.{Store, is_settled}
 use Rattle.flt_replay.specs.Apart.{is_apart, is_anothers}
 
 -- ---- counts

@@ -8,6 +8,7 @@ use Rattle.flt_tree.specs.declared.filter.Condition.TheVariants as condition
 use Rattle.flt_tree.specs.declared.filter.FallibleCall.{FallibleCall}
 use Rattle.flt_tree.specs.declared.filter.Filter.{Filter}
 use Rattle.flt_tree.specs.declared.filter.PlainCall.{PlainCall}
+use Rattle.flt_tree.specs.declared.filter.Routine.{Routine}
 use Rattle.flt_tree.specs.declared.filter.Statement.{Statement, out-Statement}
 use Rattle.flt_tree.specs.declared.filter.Statement.TheOpen.{Statement-F}
 use Rattle.flt_tree.specs.declared.filter.Status.{Status}
@@ -31,7 +32,7 @@ pub record OfEach (p : List Filter) (t : List Event) (w : World) (a : ℕ) (P : 
   pub of_file_read : (n : NumberVariable) (d : OperationVariable) (rest : List Statement) → P (read_file w a n d rest)
   pub of_irp_test : (holds fails : List Statement) → P (test_irp w a holds fails)
   pub of_plain_call : (rest : List Statement) (c : PlainCall) → P (plain_step p t w a rest c)
-  pub of_fallible_call : (grant : Bool) (granted refused : List Statement) (c : FallibleCall) →
+  pub of_fallible_call : (grant : Bool) (granted refused : List Statement) (c : FallibleCall Routine) →
       P (fallible_step p t w a grant granted refused c)
   pub of_return : (st : Option Status) → P (returns p t w a st)
 

@@ -25,6 +25,7 @@ use Rattle.flt_tree.specs.declared.filter.FallibleCall.TheVariants as fallible
 use Rattle.flt_tree.specs.declared.filter.Filter.{Filter}
 use Rattle.flt_tree.specs.declared.filter.PlainCall.{PlainCall}
 use Rattle.flt_tree.specs.declared.filter.PlainCall.TheVariants as plain
+use Rattle.flt_tree.specs.declared.filter.Routine.{Routine}
 use Rattle.flt_tree.specs.declared.filter.Statement.{Statement}
 use Rattle.flt_tree.specs.declared.filter.Status.{Status}
 use Rattle.flt_tree.specs.declared.variable.Atom.{Atom}
@@ -50,11 +51,14 @@ use Rattle.flt_model.specs.Effects.{after_unlink, events_of_unlink, onward, goes
 use Rattle.flt_model.specs.Program.{callbacks_at, routine_of}
 use Rattle.flt_model.specs.Reads.{put_value, read_value_of, write_value_of, read_file_of, test_irp_of}
 use Rattle.flt_model.specs.Returns.{ends, status_given, context_used, visit_given_back, returned, returns, there}
-use Rattle.flt_model.specs.Settling.{Way, led, way_of, settles_visit, makes_frame, is_led, lead, settled_by}
+use Rattle.flt_model.specs.declared.settling.Way.{Way}
+use Rattle.flt_model.specs.Settling.{led, way_of, settles_visit, makes_frame, is_led, lead, settled_by}
 use Rattle.flt_model.specs.Steps.{plain_step, fallible_step, list_step, board}
 use Rattle.flt_model.specs.Trace.{is_held}
 use Rattle.flt_model.specs.Variables.{operation_in, context_in, named_in, atom_value, with_number, with_old, with_operation_in}
-use Rattle.flt_model.specs.World.{World, Store, Activation, Entry, Link, activation_at, actor_at, is_attached, presence_at, queue_at}
+use Rattle.flt_model.specs.declared.parts.Entry.{Entry}
+use Rattle.flt_model.specs.declared.parts.Link.{Link}
+use Rattle.flt_model.specs.World.{World, Store, Activation, activation_at, actor_at, is_attached, presence_at, queue_at}
 use Rattle.flt_model.specs.World.{context_at, is_freed, linked_at, nobody, arrival_of, visit_at, route_at, with_context, with_route}
 use Rattle.flt_replay.proofs.Machine.EachStep.{OfEach, of_list}
 use Rattle.flt_replay.specs.Judging.{is_by}
@@ -542,7 +546,7 @@ module _ (w : World) (a : ℕ) where
       plain_framed rest (plain.CompletePendedPreOperation d st) = complete_framed d st rest
       plain_framed rest plain.CompletePendedPostOperation = complete_post_framed rest
 
-      fallible_framed : (grant : Bool) (granted refused : List Statement) (c : FallibleCall) →
+      fallible_framed : (grant : Bool) (granted refused : List Statement) (c : FallibleCall Routine) →
           Framed w a (fallible_step p t w a grant granted refused c)
       fallible_framed grant granted refused (fallible.AllocateContext d) = allocate_framed d grant granted refused
       fallible_framed grant granted refused (fallible.GetContext on d) = get_framed on d granted refused

@@ -25,6 +25,7 @@ use Rattle.flt_tree.specs.declared.filter.FallibleCall.TheVariants as fallible
 use Rattle.flt_tree.specs.declared.filter.Filter.{Filter}
 use Rattle.flt_tree.specs.declared.filter.PlainCall.{PlainCall}
 use Rattle.flt_tree.specs.declared.filter.PlainCall.TheVariants as plain
+use Rattle.flt_tree.specs.declared.filter.Routine.{Routine}
 use Rattle.flt_tree.specs.declared.filter.Statement.{Statement}
 use Rattle.flt_tree.specs.declared.filter.Status.{Status}
 use Rattle.flt_tree.specs.declared.variable.Atom.{Atom}
@@ -49,11 +50,15 @@ use Rattle.flt_model.specs.Effects.{after_unlink, events_of_unlink, onward, goes
 use Rattle.flt_model.specs.Program.{callbacks_at, routine_of}
 use Rattle.flt_model.specs.Reads.{put_value, read_value_of, write_value_of, read_file_of, test_irp_of}
 use Rattle.flt_model.specs.Returns.{ends, status_given, context_used, visit_given_back, returned, returns, there}
-use Rattle.flt_model.specs.Settling.{Way, led, way_of, settles_visit, makes_frame, is_led, lead, settled_by}
+use Rattle.flt_model.specs.declared.settling.Way.{Way}
+use Rattle.flt_model.specs.Settling.{led, way_of, settles_visit, makes_frame, is_led, lead, settled_by}
 use Rattle.flt_model.specs.Steps.{plain_step, fallible_step, list_step, board}
 use Rattle.flt_model.specs.Trace.{is_held}
 use Rattle.flt_model.specs.Variables.{operation_in, context_in, named_in, atom_value, with_number, with_old}
-use Rattle.flt_model.specs.World.{World, Store, Activation, Entry, Item, Link, activation_at, actor_at, is_attached, presence_at, queue_at}
+use Rattle.flt_model.specs.declared.parts.Entry.{Entry}
+use Rattle.flt_model.specs.declared.parts.Item.{Item}
+use Rattle.flt_model.specs.declared.parts.Link.{Link}
+use Rattle.flt_model.specs.World.{World, Store, Activation, activation_at, actor_at, is_attached, presence_at, queue_at}
 use Rattle.flt_model.specs.World.{context_at, is_freed, linked_at, arrival_of, visit_at, route_at, with_context, with_route}
 use Rattle.flt_model.specs.Violations.{in_queue, in_item}
 use Rattle.flt_replay.proofs.Machine.Apart.{apart_numbers, one_if_apart, Unmoved, unmoved_itself, unmoved_if, unmoved_same}
@@ -645,7 +650,7 @@ module _ (w : World) (a : ℕ) where
       plain_handed rest (plain.CompletePendedPreOperation d st) = complete_handed d st rest
       plain_handed rest plain.CompletePendedPostOperation = complete_post_handed rest
 
-      fallible_handed : (grant : Bool) (granted refused : List Statement) (c : FallibleCall) →
+      fallible_handed : (grant : Bool) (granted refused : List Statement) (c : FallibleCall Routine) →
           Handed w a (fallible_step p t w a grant granted refused c)
       fallible_handed grant granted refused (fallible.AllocateContext d) = allocate_handed d grant granted refused
       fallible_handed grant granted refused (fallible.GetContext on d) = get_handed on d granted refused

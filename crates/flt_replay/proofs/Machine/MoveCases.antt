@@ -13,8 +13,14 @@ use Rattle.flt_model.specs.Moves.{stores, starts, with_visit, with_arrival, fits
 use Rattle.flt_model.specs.Moves.{carried_out, lower_at, last_frame, post_by, post_at, is_done, is_entry_of, other_entries}
 use Rattle.flt_model.specs.Moves.{canceled_by, work_by, is_frame_of, drain_by, unlink_by, is_drained, make}
 use Rattle.flt_model.specs.Program.{filter_of}
-use Rattle.flt_model.specs.World.{World, Actor, Arrival, Down, Entry, Frame, Item, Position, Presence, Route}
-use Rattle.flt_model.specs.World.{Up, Visit, Visiting, is_attached, is_detaching, presence_at, queue_at, arrival_at}
+use Rattle.flt_model.specs.declared.parts.Arrival.{Arrival}
+use Rattle.flt_model.specs.declared.parts.Entry.{Entry}
+use Rattle.flt_model.specs.declared.parts.Item.{Item}
+use Rattle.flt_model.specs.declared.parts.Position.{Position}
+use Rattle.flt_model.specs.declared.parts.Position.TheVariants.{Down, Visiting, Up}
+use Rattle.flt_model.specs.declared.parts.Presence.{Presence}
+use Rattle.flt_model.specs.World.{World, Actor, Frame, Route}
+use Rattle.flt_model.specs.World.{Visit, is_attached, is_detaching, presence_at, queue_at, arrival_at}
 use Rattle.flt_model.specs.World.{route_at, item_at, linked_at, with_route, with_queue, with_presence}
 
 -- ---- each kind of move

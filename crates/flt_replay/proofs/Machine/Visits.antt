@@ -19,7 +19,9 @@ use Rattle.flt_model.specs.Moves.{stores, starts, gains_visit, with_visit, is_en
 use Rattle.flt_model.specs.Trace.{one_if}
 use Rattle.flt_model.specs.Variables.{starting}
 use Rattle.flt_model.specs.Violations.{in_queue, in_item, in_some}
-use Rattle.flt_model.specs.World.{World, Store, Actor, Activation, Entry, Item, Route, Visit}
+use Rattle.flt_model.specs.declared.parts.Entry.{Entry}
+use Rattle.flt_model.specs.declared.parts.Item.{Item}
+use Rattle.flt_model.specs.World.{World, Store, Actor, Activation, Route, Visit}
 use Rattle.flt_model.specs.World.{queue_at, item_at, context_at, with_route, with_queue}
 use Rattle.flt_replay.proofs.Machine.Apart.{apart_numbers, one_if_apart, Unmoved, unmoved_same, SameParts, sum_set}
 use Rattle.flt_replay.proofs.Machine.Frames.{if_same, self_by}

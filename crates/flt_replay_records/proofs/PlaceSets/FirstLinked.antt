@@ -3,7 +3,8 @@ use Rattle.std.proofs.Common.{◌≡◌, ◌<◌, ℕ, true, false, List, Option
 use Rattle.std.specs.BTreeSet.{BTreeSet}
 use Rattle.std.specs.List.{position}
 use Rattle.std.specs.Option.{MatchOption}
-use Rattle.flt_model.specs.World.{Context, Link, is_linked_to, no_context}
+use Rattle.flt_model.specs.declared.parts.Link.{Link}
+use Rattle.flt_model.specs.World.{Context, is_linked_to, no_context}
 use Rattle.flt_replay_records.specs.Links.{AreLinks, key_code}
 use Rattle.flt_replay_records.specs.Places.{has}
 use Rattle.flt_replay_records.proofs.PlaceSets.First.{is_position}

@@ -5,7 +5,8 @@ use Rattle.std.proofs.lemmas.Bool.Decides.{nat_tests}
 use Rattle.std.proofs.lemmas.List.Sums.{sum_by-set, sum_by_push, sum_by-cons}
 use Rattle.flt_model.specs.Trace.{one_if}
 use Rattle.flt_model.specs.Violations.{in_queue, in_item, in_some}
-use Rattle.flt_model.specs.World.{Entry, Item}
+use Rattle.flt_model.specs.declared.parts.Entry.{Entry}
+use Rattle.flt_model.specs.declared.parts.Item.{Item}
 use Rattle.flt_replay_records.specs.Counts.{count}
 use Rattle.flt_replay_records.specs.Waiting.{AreWaiting}
 use Rattle.flt_replay_records.specs.Tickets.{without_first}

@@ -2,7 +2,7 @@
 use Rattle.std.proofs.Common.{◌≡◌, ℕ, suc, ◌+◌, Bool, true, false, List, [], ◌∷◌, ◌++◌}
 use Rattle.std.proofs.Common.{Some, find, take, drop, refl, sym, ap, ◌∙◌, arith, add-one}
 use Rattle.std.specs.List.{AllByRecursion, position_or_len}
-use Rattle.flt_model.specs.World.{Entry}
+use Rattle.flt_model.specs.declared.parts.Entry.{Entry}
 use Rattle.flt_replay_records.specs.Tickets.{without_first}
 
 past_first : (x : Entry) (xs : List Entry) (n m : ℕ) → m ≡ suc n →

@@ -11,7 +11,7 @@ use Rattle.std.specs.List.{list_any}
 use Rattle.std.specs.Option.{MatchOption}
 use Rattle.flt_model.specs.Trace.{one_if}
 use Rattle.flt_model.specs.Violations.{in_queue}
-use Rattle.flt_model.specs.World.{Entry}
+use Rattle.flt_model.specs.declared.parts.Entry.{Entry}
 use Rattle.flt_replay_records.proofs.Queues.CountWaiting.{in_none, in_push, in_cons}
 use Rattle.flt_replay_records.proofs.Queues.QueueMiddle.{first_passes, first_fails}
 use Rattle.flt_replay_records.specs.Counts.{count}

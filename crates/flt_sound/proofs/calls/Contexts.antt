@@ -31,7 +31,8 @@ use Rattle.flt_model.specs.Effects.{onward, freed_by_drop, after_unlink, goes_on
 use Rattle.flt_model.specs.Runs.{Moment}
 use Rattle.flt_model.specs.Trace.{gains, frees}
 use Rattle.flt_model.specs.Variables.{with_context_in, with_old}
-use Rattle.flt_model.specs.World.{Store, Link, no_context, is_linked_to, same_key, with_link, add_reference}
+use Rattle.flt_model.specs.declared.parts.Link.{Link}
+use Rattle.flt_model.specs.World.{Store, no_context, is_linked_to, same_key, with_link, add_reference}
 use Rattle.flt_model.specs.World.{drop_reference, actor_at, activation_at, arrival_of, context_at, linked_at}
 use Rattle.flt_model.specs.World as world
 use Rattle.flt_sound.proofs.sums.Counts.{counts, of_actor-same, made_self}
@@ -174,10 +175,10 @@ module _ {p : List Filter} {m : Moment} {a : ℕ} {s : Shadow} (at : IsAt p m a 
   unborn = omega (arith, at.kept.freed (length m.world.store.contexts), made_self (length m.world.store.contexts))
 
   -- FltAllocateContext is good, whether the system grants it or not
-  pub allocate_good : (cs : List Callback) (d : ContextVariable) (grant : Bool) (granted refused : List Statement) →
-      AtCall at (graph.fallible cs (fallible_call.AllocateContext d)) granted refused →
+  pub allocate_good : (d : ContextVariable) (grant : Bool) (granted refused : List Statement) →
+      AtCall at (graph.fallible (fallible_call.AllocateContext d)) granted refused →
       Good p m (allocate m.world a d grant granted refused)
-  allocate_good cs d true granted refused k =
+  allocate_good d true granted refused k =
       let n = length m.world.store.contexts in
       let new : world.Context = record { owner = (actor_at m.world a).filter; references = 1; value = 0; link = None } in
       let store = record m.world.store { contexts = m.world.store.contexts ++ new ∷ [] } in
@@ -185,20 +186,20 @@ module _ {p : List Filter} {m : Moment} {a : ℕ} {s : Shadow} (at : IsAt p m a 
       gets (event.Call a call.AllocateContext ∷ []) opened d n granted store (or_parts _ _ k.fine.r03).0
       (same_calm at store refl refl refl refl refl refl) (references.allocates a m.world.store at.kept.mine (own_filter at))
       (unborn, newest m.world.store.contexts (own_filter at)) (k.ok true)
-  allocate_good cs d false granted refused k =
+  allocate_good d false granted refused k =
       nothing_given (event.Call a call.AllocateContext ∷ []) (opened_call at call.AllocateContext k.clear refl) (Some d) refused
       (or_parts _ _ k.fine.r03).0 (k.fails _ refl true)
 
   -- FltGetStreamContext and FltGetInstanceContext are good
-  pub get_good : (cs : List Callback) (on : Anchor) (d : ContextVariable) (granted refused : List Statement) →
-      AtCall at (graph.fallible cs (fallible_call.GetContext on d)) granted refused → Good p m (get m.world a on d granted refused)
-  get_good cs anchor.Instance d granted refused k =
+  pub get_good : (on : Anchor) (d : ContextVariable) (granted refused : List Statement) →
+      AtCall at (graph.fallible (fallible_call.GetContext on d)) granted refused → Good p m (get m.world a on d granted refused)
+  get_good anchor.Instance d granted refused k =
       let l : Link = record { filter = (actor_at m.world a).filter; key = Instance } in
       let opened = opened_call at (call.GetContext anchor.Instance) k.clear refl in
       got_good (event.Call a (call.GetContext anchor.Instance) ∷ []) opened d granted refused (or_parts _ _ k.fine.r03).0
       (k.ok true) (k.fails _ refl true)
       (linked_at m.world.store l) (λ y e. link_available at y (found_link at l refl y e))
-  get_good cs anchor.Stream d granted refused k =
+  get_good anchor.Stream d granted refused k =
       let o = owned_operation at Data k.fine.r04 in
       let l : Link = record { filter = (actor_at m.world a).filter; key = Stream (arrival_of m.world.store o.object).file } in
       let opened = opened_use at (call.GetContext anchor.Stream) (Visit o.object) k.clear refl (has_owned_visit at Data o) in
@@ -208,15 +209,15 @@ module _ {p : List Filter} {m : Moment} {a : ℕ} {s : Shadow} (at : IsAt p m a 
       (k.ok true) (k.fails _ refl true) (linked_at m.world.store l) (λ y e. link_available at y (found_link at l refl y e)))
 
   -- FltDeleteStreamContext and FltDeleteInstanceContext are good
-  pub delete_at_good : (cs : List Callback) (on : Anchor) (old : Option ContextVariable) (granted refused : List Statement) →
-      AtCall at (graph.fallible cs (fallible_call.DeleteContextOf on old)) granted refused →
+  pub delete_at_good : (on : Anchor) (old : Option ContextVariable) (granted refused : List Statement) →
+      AtCall at (graph.fallible (fallible_call.DeleteContextOf on old)) granted refused →
       Good p m (delete_at m.world a on old granted refused)
-  delete_at_good cs anchor.Instance old granted refused k =
+  delete_at_good anchor.Instance old granted refused k =
       let l : Link = record { filter = (actor_at m.world a).filter; key = Instance } in
       let opened = opened_call at (call.DeleteContextOf anchor.Instance) k.clear refl in
       unlinked_good (event.Call a (call.DeleteContextOf anchor.Instance) ∷ []) opened old granted refused (or_parts _ _ k.fine.r03).0
       (k.ok true) (k.fails _ refl true) (linked_at m.world.store l) (found_link at l refl)
-  delete_at_good cs anchor.Stream old granted refused k =
+  delete_at_good anchor.Stream old granted refused k =
       let o = owned_operation at Data k.fine.r04 in
       let l : Link = record { filter = (actor_at m.world a).filter; key = Stream (arrival_of m.world.store o.object).file } in
       let opened = opened_use at (call.DeleteContextOf anchor.Stream) (Visit o.object) k.clear refl (has_owned_visit at Data o) in

@@ -39,7 +39,8 @@ use Rattle.flt_model.specs.Effects.{onward, loses_context, goes_on, unchanged}
 use Rattle.flt_model.specs.Program.{callbacks_at, has_head, is_canceled}
 use Rattle.flt_model.specs.Runs.{Moment}
 use Rattle.flt_model.specs.Trace.{gains, loses, frees, settles}
-use Rattle.flt_model.specs.World.{Store, Entry, arrival_of, queue_at, is_attached, presence_at}
+use Rattle.flt_model.specs.declared.parts.Entry.{Entry}
+use Rattle.flt_model.specs.World.{Store, arrival_of, queue_at, is_attached, presence_at}
 use Rattle.flt_model.specs.Violations.{in_some}
 use Rattle.flt_sound.proofs.sums.Eaches.{each_push}
 use Rattle.flt_sound.proofs.sums.Counts.{counts, of_actor-same, Has, has_after}
@@ -253,11 +254,11 @@ module _ {p : List Filter} {m : Moment} {a : ℕ} {s : Shadow} (at : IsAt p m a 
       by false = unchanged_good at pre refused o fail
 
   -- FltCbdqInsertIo is good, where the filter has the callback that takes canceled entries
-  pub insert_good : (cs : List Callback) (c : Option ContextVariable) (granted refused : List Statement) →
-      AtCall at (graph.fallible cs (fallible_call.InsertIo c)) granted refused →
+  pub insert_good : (c : Option ContextVariable) (granted refused : List Statement) →
+      AtCall at (graph.fallible (fallible_call.InsertIo c)) granted refused →
       has_head is_canceled (callbacks_at p (own_filter at)) ≡ true →
       Good p m (insert m.world a c granted refused)
-  insert_good cs None granted refused k served =
+  insert_good None granted refused k served =
       let d = owned_operation at Data k.fine.r04 in
       let v = d.object in
       let irp = mode_irp (or_parts _ _ k.fine.r06).0 in
@@ -267,7 +268,7 @@ module _ {p : List Filter} {m : Moment} {a : ℕ} {s : Shadow} (at : IsAt p m a 
       record { given = pre_given v d.is (in_place at places.PreOrDeferredPre _ k.fine.r08) irp; served = served } in
       rw e (enqueue_good (event.Call a call.InsertIo ∷ event.Use a (Visit v) ∷ []) v None None granted refused opened d.is tt fits
       (k.ok true) (k.fails _ refl true))
-  insert_good cs (Some c) granted refused k served =
+  insert_good (Some c) granted refused k served =
       let d = owned_operation at Data k.fine.r04 in
       let v = d.object in
       let o = owned_context at c k.fine.r13 in

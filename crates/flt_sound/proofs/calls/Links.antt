@@ -11,7 +11,8 @@ use Rattle.flt_model.specs.Calls.{cannot_set}
 use Rattle.flt_model.specs.declared.event.Object.TheVariants.{Context}
 use Rattle.flt_model.specs.Effects.{after_unlink}
 use Rattle.flt_model.specs.Runs.{Moment}
-use Rattle.flt_model.specs.World.{Store, Link, no_context, is_linked_to, same_key, with_link, add_reference}
+use Rattle.flt_model.specs.declared.parts.Link.{Link}
+use Rattle.flt_model.specs.World.{Store, no_context, is_linked_to, same_key, with_link, add_reference}
 use Rattle.flt_model.specs.World.{drop_reference, actor_at, activation_at, arrival_of, context_at, linked_at}
 use Rattle.flt_model.specs.World as world
 use Rattle.flt_sound.proofs.sums.Counts.{Has}

@@ -23,7 +23,8 @@ use Rattle.flt_model.specs.Effects.{onward, goes_on, calling}
 use Rattle.flt_model.specs.Locks.{with_holders}
 use Rattle.flt_model.specs.Runs.{Moment}
 use Rattle.flt_model.specs.Statuses.{may_pend}
-use Rattle.flt_model.specs.World.{Activation, Holder, activation_at}
+use Rattle.flt_model.specs.declared.parts.Holder.{Holder}
+use Rattle.flt_model.specs.World.{Activation, activation_at}
 use Rattle.flt_model.specs.declared.event.Event.{Event}
 use Rattle.flt_model.specs.declared.event.Object.{Object}
 use Rattle.flt_model.specs.declared.event.Object.TheVariants.{Context, Visit}

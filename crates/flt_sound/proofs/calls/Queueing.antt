@@ -19,7 +19,6 @@ use Rattle.flt_rules.specs.declared.place.Place.TheVariants as place
 use Rattle.flt_tree.specs.declared.filter.Callback.{Callback}
 use Rattle.flt_tree.specs.declared.filter.FallibleCall.TheVariants as fallible_call
 use Rattle.flt_tree.specs.declared.filter.Filter.{Filter}
-use Rattle.flt_tree.specs.declared.filter.Routine.{Routine}
 use Rattle.flt_tree.specs.declared.filter.Statement.{Statement}
 use Rattle.flt_tree.specs.declared.variable.ContextVariable.{ContextVariable}
 use Rattle.flt_tree.specs.declared.variable.OperationVariable.TheVariants.{Data}
@@ -33,7 +32,7 @@ use Rattle.flt_model.specs.declared.event.Object.TheVariants.{Context, Visit}
 use Rattle.flt_model.specs.Effects.{loses_context, unchanged}
 use Rattle.flt_model.specs.Program.{callbacks_at, place_at}
 use Rattle.flt_model.specs.Runs.{Moment}
-use Rattle.flt_model.specs.World.{Item}
+use Rattle.flt_model.specs.declared.parts.Item.{Item}
 use Rattle.flt_model.specs.Violations.{in_some}
 use Rattle.flt_model.specs.Trace.{gains, loses, frees}
 use Rattle.flt_sound.proofs.sums.Counts.{counts, of_actor-same}
@@ -153,11 +152,11 @@ module _ {p : List Filter} {m : Moment} {a : ℕ} {s : Shadow} (at : IsAt p m a 
   defer_good pre v c x routine false granted refused o owns n fits ok fail = unchanged_good at pre refused o fail
 
   -- FltQueueDeferredIoWorkItem is good, where the routine fits the callback
-  pub deferred_good : (cs : List Callback) (r : Routine) (routine : ℕ) (c : Option ContextVariable) (grant : Bool)
+  pub deferred_good : (n routine : ℕ) (c : Option ContextVariable) (grant : Bool)
       (granted refused : List Statement) →
-      AtCall at (graph.fallible cs (fallible_call.QueueDeferredIoWorkItem r c)) granted refused → Fits routine (own_place at) →
+      AtCall at (graph.fallible (fallible_call.QueueDeferredIoWorkItem n c)) granted refused → Fits routine (own_place at) →
       Good p m (queue_deferred m.world a routine c grant granted refused)
-  deferred_good cs r routine None grant granted refused k fits =
+  deferred_good n routine None grant granted refused k fits =
       let d = owned_operation at Data k.fine.r04 in
       let v = d.object in
       let irp = mode_irp at (or_parts _ _ k.fine.r06).0 in
@@ -168,7 +167,7 @@ module _ {p : List Filter} {m : Moment} {a : ℕ} {s : Shadow} (at : IsAt p m a 
       rw e
       (defer_good (event.Call a call.QueueDeferredIoWorkItem ∷ event.Use a (Visit v) ∷ []) v None None routine grant granted refused
       opened d.is tt item (k.ok true) (k.fails _ refl true))
-  deferred_good cs r routine (Some c) grant granted refused k fits =
+  deferred_good n routine (Some c) grant granted refused k fits =
       let d = owned_operation at Data k.fine.r04 in
       let v = d.object in
       let o = owned_context at c k.fine.r13 in
@@ -207,15 +206,15 @@ module _ {p : List Filter} {m : Moment} {a : ℕ} {s : Shadow} (at : IsAt p m a 
   queue_good pre c x routine false granted refused o n f ok fail = unchanged_good at pre refused o fail
 
   -- FltQueueGenericWorkItem is good, where the routine is there
-  pub generic_good : (cs : List Callback) (r : Routine) (routine : ℕ) (c : Option ContextVariable) (grant : Bool)
+  pub generic_good : (n routine : ℕ) (c : Option ContextVariable) (grant : Bool)
       (granted refused : List Statement) →
-      AtCall at (graph.fallible cs (fallible_call.QueueGenericWorkItem r c)) granted refused → IsRoutineAt callbacks place.Generic routine →
+      AtCall at (graph.fallible (fallible_call.QueueGenericWorkItem n c)) granted refused → IsRoutineAt callbacks place.Generic routine →
       Good p m (queue_generic m.world a routine c grant granted refused)
-  generic_good cs r routine None grant granted refused k f =
+  generic_good n routine None grant granted refused k f =
       let opened = opened_call at call.QueueGenericWorkItem k.clear refl in
       queue_good (event.Call a call.QueueGenericWorkItem ∷ []) None None routine grant granted refused opened tt f (k.ok true)
       (k.fails _ refl true)
-  generic_good cs r routine (Some c) grant granted refused k f =
+  generic_good n routine (Some c) grant granted refused k f =
       let o = owned_context at c k.fine.r13 in
       let x = o.object in
       let opened = opened_use at call.QueueGenericWorkItem (Context x) k.clear refl (has_owned_context at c o) in

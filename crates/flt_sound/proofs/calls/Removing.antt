@@ -32,7 +32,8 @@ use Rattle.flt_model.specs.Effects.{onward, gains_context, goes_on}
 use Rattle.flt_model.specs.Runs.{Moment}
 use Rattle.flt_model.specs.Trace.{gains, loses}
 use Rattle.flt_model.specs.Variables.{with_context_in, with_operation_in}
-use Rattle.flt_model.specs.World.{Store, Entry, queue_at, with_queue}
+use Rattle.flt_model.specs.declared.parts.Entry.{Entry}
+use Rattle.flt_model.specs.World.{Store, queue_at, with_queue}
 use Rattle.flt_model.specs.Violations.{in_some}
 use Rattle.flt_sound.proofs.sums.Eaches.{Each}
 use Rattle.flt_sound.proofs.sums.Counts.{counts, of_actor-same, one_if-same}
@@ -230,9 +231,9 @@ module _ {p : List Filter} {m : Moment} {a : ℕ} {s : Shadow} (at : IsAt p m a 
   -- ---- FltCbdqRemoveNextIo
 
   -- FltCbdqRemoveNextIo is good, whether the queue is empty or not
-  pub remove_good : (cs : List Callback) (o : RemovedVariable) (d : ContextVariable) (granted refused : List Statement) →
-      AtCall at (graph.fallible cs (fallible_call.RemoveNextIo o d)) granted refused → Good p m (remove_next m.world a o d granted refused)
-  remove_good cs o d granted refused k = by (queue_at m.world.store (own_filter at)) refl (at.kept.stored.entries (own_filter at))
+  pub remove_good : (o : RemovedVariable) (d : ContextVariable) (granted refused : List Statement) →
+      AtCall at (graph.fallible (fallible_call.RemoveNextIo o d)) granted refused → Good p m (remove_next m.world a o d granted refused)
+  remove_good o d granted refused k = by (queue_at m.world.store (own_filter at)) refl (at.kept.stored.entries (own_filter at))
     where
       call_event : List Event
       call_event = event.Call a call.RemoveNextIo ∷ []

@@ -27,7 +27,8 @@ use Rattle.flt_model.specs.declared.event.Object.TheVariants.{Context, Visit}
 use Rattle.flt_model.specs.Effects.{Step, onward, freed_by_drop, after_unlink, goes_on, gives_nothing}
 use Rattle.flt_model.specs.Runs.{Moment}
 use Rattle.flt_model.specs.Variables.{with_old}
-use Rattle.flt_model.specs.World.{Link, actor_at, arrival_of, linked_at}
+use Rattle.flt_model.specs.declared.parts.Link.{Link}
+use Rattle.flt_model.specs.World.{actor_at, arrival_of, linked_at}
 use Rattle.flt_sound.proofs.sums.Counts.{gains-nil, loses-nil, frees-nil, Has}
 use Rattle.flt_sound.proofs.sums.Ledger as ledger
 use Rattle.flt_sound.proofs.sums.Ledger.{Ledger, ledger_behind}
@@ -101,23 +102,23 @@ module _ {p : List Filter} {m : Moment} {a : ℕ} {s : Shadow} (at : IsAt p m a 
     unless_good false bad good x y = y refl
 
   -- a call that sets a context
-  abbrev AtSet : Existing → List Callback → Anchor → ContextVariable → Option ContextVariable → List Statement → List Statement → Type 0
-  AtSet existing cs on c old granted refused = AtCall at (graph.fallible cs (fallible_call.SetContext on existing c old)) granted refused
+  abbrev AtSet : Existing → Anchor → ContextVariable → Option ContextVariable → List Statement → List Statement → Type 0
+  AtSet existing on c old granted refused = AtCall at (graph.fallible (fallible_call.SetContext on existing c old)) granted refused
 
   -- what it does where the context is held and the link known
-  set_effect : (existing : Existing) (cs : List Callback) (on : Anchor) (c : ContextVariable) (old : Option ContextVariable)
+  set_effect : (existing : Existing) (on : Anchor) (c : ContextVariable) (old : Option ContextVariable)
       (granted refused : List Statement) →
-      AtSet existing cs on c old granted refused → (pre : List Event) → Opened at pre →
+      AtSet existing on c old granted refused → (pre : List Event) → Opened at pre →
       (x : ℕ) (l : Link) → Has m.trace a (Context x) → l.filter ≡ own_filter at →
       GoodBehind at pre (set_by m.world a existing old granted refused (Some x) (Some l))
-  set_effect Keep cs on c old granted refused k pre o x l has own =
+  set_effect Keep on c old granted refused k pre o x l has own =
       let free = (or_parts _ _ k.fine.r03).0 in
       unless_good pre o (cannot_set m.world a x) (gives_nothing m.world a old refused)
       (set_there m.world a Keep old granted refused x l (linked_at m.world.store l))
       (nothing_given at pre o old refused free (k.fails _ refl false))
       (λ can. keep_good pre o old granted refused x l free (k.ok true) (k.fails _ refl true) (can_link at x l has own can)
       (linked_at m.world.store l) (found_link at l own))
-  set_effect Replace cs on c old granted refused k pre o x l has own =
+  set_effect Replace on c old granted refused k pre o x l has own =
       let free = (or_parts _ _ k.fine.r03).0 in
       unless_good pre o (cannot_set m.world a x) (gives_nothing m.world a old refused)
       (set_there m.world a Replace old granted refused x l (linked_at m.world.store l))
@@ -126,41 +127,41 @@ module _ {p : List Filter} {m : Moment} {a : ℕ} {s : Shadow} (at : IsAt p m a 
       (linked_at m.world.store l) (found_link at l own))
 
   -- the context is surely held, whatever becomes of one that exists
-  set_held : (existing : Existing) (cs : List Callback) (on : Anchor) (c : ContextVariable) (old : Option ContextVariable)
+  set_held : (existing : Existing) (on : Anchor) (c : ContextVariable) (old : Option ContextVariable)
       (granted refused : List Statement) →
-      AtSet existing cs on c old granted refused → lacks_context (state_of at) (Some c) ≡ false
-  set_held Keep cs on c old granted refused k = k.fine.r01
-  set_held Replace cs on c old granted refused k = k.fine.r01
+      AtSet existing on c old granted refused → lacks_context (state_of at) (Some c) ≡ false
+  set_held Keep on c old granted refused k = k.fine.r01
+  set_held Replace on c old granted refused k = k.fine.r01
 
   -- and so is the operation whose file is the stream
-  set_data : (existing : Existing) (cs : List Callback) (c : ContextVariable) (old : Option ContextVariable)
+  set_data : (existing : Existing) (c : ContextVariable) (old : Option ContextVariable)
       (granted refused : List Statement) →
-      AtSet existing cs anchor.Stream c old granted refused → lacks_operation (state_of at) (Some Data) ≡ false
-  set_data Keep cs c old granted refused k = k.fine.r04
-  set_data Replace cs c old granted refused k = k.fine.r04
+      AtSet existing anchor.Stream c old granted refused → lacks_operation (state_of at) (Some Data) ≡ false
+  set_data Keep c old granted refused k = k.fine.r04
+  set_data Replace c old granted refused k = k.fine.r04
 
   -- FltSetStreamContext and FltSetInstanceContext are good
-  pub set_good : (existing : Existing) (cs : List Callback) (on : Anchor) (c : ContextVariable) (old : Option ContextVariable)
+  pub set_good : (existing : Existing) (on : Anchor) (c : ContextVariable) (old : Option ContextVariable)
       (granted refused : List Statement) →
-      AtSet existing cs on c old granted refused → Good p m (set_context m.world a on existing c old granted refused)
-  set_good existing cs anchor.Instance c old granted refused k =
-      let o = owned_context at c (set_held existing cs anchor.Instance c old granted refused k) in
+      AtSet existing on c old granted refused → Good p m (set_context m.world a on existing c old granted refused)
+  set_good existing anchor.Instance c old granted refused k =
+      let o = owned_context at c (set_held existing anchor.Instance c old granted refused k) in
       let x = o.object in
       let has = has_owned_context at c o in
       let l : Link = record { filter = (actor_at m.world a).filter; key = Instance } in
       let name = call.SetContext anchor.Instance existing in
       rw (context_is at c (Owns x) o.is)
-      (set_effect existing cs anchor.Instance c old granted refused k (event.Call a name ∷ event.Use a (Context x) ∷ [])
+      (set_effect existing anchor.Instance c old granted refused k (event.Call a name ∷ event.Use a (Context x) ∷ [])
       (opened_use at name (Context x) k.clear refl has) x l has refl)
-  set_good existing cs anchor.Stream c old granted refused k =
-      let o = owned_context at c (set_held existing cs anchor.Stream c old granted refused k) in
+  set_good existing anchor.Stream c old granted refused k =
+      let o = owned_context at c (set_held existing anchor.Stream c old granted refused k) in
       let x = o.object in
       let has = has_owned_context at c o in
-      let d = owned_operation at Data (set_data existing cs c old granted refused k) in
+      let d = owned_operation at Data (set_data existing c old granted refused k) in
       let v = d.object in
       let l : Link = record { filter = (actor_at m.world a).filter; key = Stream (arrival_of m.world.store v).file } in
       let name = call.SetContext anchor.Stream existing in
       rw (context_is at c (Owns x) o.is, operation_is at Data (Owns v) d.is)
-      (set_effect existing cs anchor.Stream c old granted refused k
+      (set_effect existing anchor.Stream c old granted refused k
       (event.Call a name ∷ event.Use a (Context x) ∷ event.Use a (Visit v) ∷ [])
       (opened_uses at name (Context x) (Visit v) k.clear refl has (has_owned_visit at Data d)) x l has refl)

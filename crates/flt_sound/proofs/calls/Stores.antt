@@ -3,7 +3,9 @@
 use Rattle.std.proofs.Common.{ℕ, List, Option, None, refl}
 use Rattle.std.proofs.Math.ListN.{get_or}
 use Rattle.flt_tree.specs.declared.filter.Filter.{Filter}
-use Rattle.flt_model.specs.World.{Store, Entry, Item, with_queue}
+use Rattle.flt_model.specs.declared.parts.Entry.{Entry}
+use Rattle.flt_model.specs.declared.parts.Item.{Item}
+use Rattle.flt_model.specs.World.{Store, with_queue}
 use Rattle.flt_sound.proofs.sums.Eaches.{Each, each_set}
 use Rattle.flt_sound.proofs.points.Kept.{StoreChange}
 use Rattle.flt_sound.proofs.points.Stored.{FitsQueue, IsItem, Stored}

@@ -2,13 +2,13 @@
 -- statement is the instruction of the point at which it stands, so that statement's own lemma applies, with what the graph's rules
 -- say of the instruction.
 -- p is the program, m the moment, a the activation, s its shadow; st is its first statement, rest the others, q a place.
-use Rattle.std.proofs.Common.{◌≡◌, ℕ, Bool, true, false, List, [], ◌∷◌, ◌++◌, length, Some, None, ap, sym, subst, refl, ◌∙◌}
-use Rattle.std.specs.Prelude.{cond, if◌then◌else◌, nat_lt, position}
+use Rattle.std.proofs.Common.{◌≡◌, ℕ, Bool, true, false, List, [], ◌∷◌, ◌++◌, Some, None, ap, sym, subst, refl, ◌∙◌}
+use Rattle.std.specs.Prelude.{if◌then◌else◌}
 use Rattle.std.proofs.Math.ListN.{get_or, get_or-map}
 use Rattle.flt_rules.specs.declared.place.Place.{Place}
 use Rattle.flt_rules.specs.declared.place.Place.TheVariants as place
-use Rattle.flt_tree.specs.Filter.{is_named}
 use Rattle.flt_tree.specs.Declarations.{has_event, same_event}
+use Rattle.flt_tree.specs.Registered.{numbered}
 use Rattle.flt_tree.specs.declared.filter.Action.{Action}
 use Rattle.flt_tree.specs.declared.filter.Action.TheVariants as action
 use Rattle.flt_tree.specs.declared.filter.Callback.{Callback}
@@ -32,7 +32,8 @@ use Rattle.flt_graph.specs.Instruction as graph
 use Rattle.flt_graph.specs.Points.{remaining_of}
 use Rattle.flt_graph.specs.declared.instruction.Instruction.{Instruction}
 use Rattle.flt_graph.specs.declared.instruction.Instruction.TheVariants as instruction
-use Rattle.flt_graph.specs.declared.instruction.Invocation.{Invocation}
+use Rattle.flt_graph.specs.declared.instruction.ResolvedCall.{ResolvedCall}
+use Rattle.flt_graph.specs.declared.instruction.ResolvedCall.TheVariants as resolved
 use Rattle.flt_graph.specs.Served.{IsRoutine, IsDeferred, IsCallServed, IsInstructionServed}
 use Rattle.flt_model.specs.Program.{callbacks_at, has_head, is_canceled, routine_of, place_for}
 use Rattle.flt_model.specs.Runs.{Moment, next}
@@ -74,14 +75,9 @@ canceled_same [] = refl
 canceled_same (c ∷ cs) = rw (canceled_one c.head, canceled_same cs) refl
 
 -- the routine that a call names is there, and of the kind that the call wants
-named : (f : Filter) (q : Place) (r : Routine) → IsRoutine f.callbacks q (position (λ c. is_named r.name c.head) f.callbacks) →
+named : (f : Filter) (q : Place) (r : Routine) → IsRoutine f.callbacks q (Some (routine_of f.callbacks r)) →
     IsRoutineAt f.callbacks q (routine_of f.callbacks r)
-named f q r h = by (nat_lt (routine_of f.callbacks r) (length f.callbacks)) h
-  where
-    by : (b : Bool) → IsRoutine f.callbacks q (cond b (Some (routine_of f.callbacks r)) None) →
-        IsRoutineAt f.callbacks q (routine_of f.callbacks r)
-    by true h = record { callback = h.0; there = h.1.0; place_is = ap place_for h.1.0 ∙ h.1.1 }
-    by false h = absurd h
+named f q r h = record { callback = h.0; there = h.1.0; place_is = ap place_for h.1.0 ∙ h.1.1 }
 
 module _ {p : List Filter} {m : Moment} {a : ℕ} (s : Shadow) (st : Statement) (rest : List Statement)
     (at : IsAt p m a (with_rest s (st ∷ rest))) where
@@ -122,7 +118,8 @@ module _ {p : List Filter} {m : Moment} {a : ℕ} (s : Shadow) (st : Statement) 
   plain_good : (span : Span) (c : PlainCall) → out-Statement st ≡ Statement-F.Call span c → Good p m (plain_step p m.trace m.world a rest c)
   plain_good span c e =
       let i = call_here (spot at) span c e in
-      by c (at_call at (graph.plain c) i.0 i.0 i.1 rest rest (ap (λ y. remaining_of y rest true) e) (ap (λ y. remaining_of y rest false) e))
+      by c (at_call at (resolved.Plain c) i.0 i.0 i.1 rest rest (ap (λ y. remaining_of y rest true) e)
+      (ap (λ y. remaining_of y rest false) e))
     where
       by : (c : PlainCall) → AtCall at (graph.plain c) rest rest → Good p m (plain_step p m.trace m.world a rest c)
       by (plain_call.DeleteContext c) k = delete_good at c rest k
@@ -145,15 +142,15 @@ module _ {p : List Filter} {m : Moment} {a : ℕ} (s : Shadow) (st : Statement) 
   callbacks_is = callbacks_there p (own_filter at) (spot at).filter (spot at).there
 
   -- what the filter has for the call at its point
-  served_here : (i : Invocation) (x y : ℕ) → here (spot at) ≡ instruction.Call i x y →
-      IsCallServed callbacks (graph_place (spot at).graph (spot at).number) i.call i.routine
-  served_here i x y h =
+  served_here : (c : ResolvedCall) (x y : ℕ) → here (spot at) ≡ instruction.Call c x y →
+      IsCallServed callbacks (graph_place (spot at).graph (spot at).number) (graph.roles c).call (graph.roles c).routine
+  served_here c x y h =
       let q = spot at in
       subst (λ (j : Instruction). IsInstructionServed callbacks (graph_place q.graph q.number) j) h
       (q.laws.served q.filter q.graph q.number q.point q.well_formed q.lowered)
 
   -- a routine of the callback's kind fits what the callback was given
-  fits_by : (q : Place) (r : Routine) → IsDeferred callbacks q (position (λ c. is_named r.name c.head) callbacks) →
+  fits_by : (q : Place) (r : Routine) → IsDeferred callbacks q (Some (routine_of callbacks r)) →
       Fits at (routine_of (callbacks_at p (own_filter at)) r) q
   fits_by (place.Pre kind) r h = rw callbacks_is (named (spot at).filter place.DeferredPre r h)
   fits_by (place.Post kind) r h = rw callbacks_is (named (spot at).filter place.DeferredPost r h)
@@ -163,36 +160,38 @@ module _ {p : List Filter} {m : Moment} {a : ℕ} (s : Shadow) (st : Statement) 
   fits_by place.Generic r h = tt
 
   -- each call that can fail is good
-  call_good : (c : FallibleCall) (x y : ℕ) (grant : Bool) (granted refused : List Statement) →
-      here (spot at) ≡ instruction.Call (graph.fallible callbacks c) x y →
-      AtCall at (graph.fallible callbacks c) granted refused → Good p m (fallible_step p m.trace m.world a grant granted refused c)
-  call_good (fallible_call.AllocateContext d) x y grant granted refused h k = allocate_good at callbacks d grant granted refused k
-  call_good (fallible_call.GetContext on d) x y grant granted refused h k = get_good at callbacks on d granted refused k
+  call_good : (c : FallibleCall Routine) (x y : ℕ) (grant : Bool) (granted refused : List Statement) →
+      here (spot at) ≡ instruction.Call (resolved.Fallible (numbered callbacks c)) x y →
+      AtCall at (graph.fallible (numbered callbacks c)) granted refused →
+      Good p m (fallible_step p m.trace m.world a grant granted refused c)
+  call_good (fallible_call.AllocateContext d) x y grant granted refused h k = allocate_good at d grant granted refused k
+  call_good (fallible_call.GetContext on d) x y grant granted refused h k = get_good at on d granted refused k
   call_good (fallible_call.SetContext on existing c d) x y grant granted refused h k =
-      set_good at existing callbacks on c d granted refused k
-  call_good (fallible_call.DeleteContextOf on d) x y grant granted refused h k = delete_at_good at callbacks on d granted refused k
+      set_good at existing on c d granted refused k
+  call_good (fallible_call.DeleteContextOf on d) x y grant granted refused h k = delete_at_good at on d granted refused k
   call_good (fallible_call.InsertIo c) x y grant granted refused h k =
-      let served = served_here (graph.fallible callbacks (fallible_call.InsertIo c)) x y h in
+      let served = served_here (resolved.Fallible (fallible_call.InsertIo c)) x y h in
       let there : has_head is_canceled callbacks ≡ true = sym (canceled_same callbacks) ∙ served in
-      insert_good at callbacks c granted refused k (rw callbacks_is there)
-  call_good (fallible_call.RemoveNextIo o d) x y grant granted refused h k = remove_good at callbacks o d granted refused k
+      insert_good at c granted refused k (rw callbacks_is there)
+  call_good (fallible_call.RemoveNextIo o d) x y grant granted refused h k = remove_good at o d granted refused k
   call_good (fallible_call.QueueDeferredIoWorkItem r c) x y grant granted refused h k =
       let q = spot at in
       let routine = routine_of (callbacks_at p (own_filter at)) r in
-      let served = served_here (graph.fallible callbacks (fallible_call.QueueDeferredIoWorkItem r c)) x y h in
+      let served = served_here (resolved.Fallible (numbered callbacks (fallible_call.QueueDeferredIoWorkItem r c))) x y h in
       let fits = fits_by (graph_place q.graph q.number) r served in
-      deferred_good at callbacks r routine c grant granted refused k (subst (λ q. Fits at routine q) (place_same q) fits)
+      deferred_good at (routine_of callbacks r) routine c grant granted refused k (subst (λ q. Fits at routine q) (place_same q) fits)
   call_good (fallible_call.QueueGenericWorkItem r c) x y grant granted refused h k =
-      let served = served_here (graph.fallible callbacks (fallible_call.QueueGenericWorkItem r c)) x y h in
+      let served = served_here (resolved.Fallible (numbered callbacks (fallible_call.QueueGenericWorkItem r c))) x y h in
       let routine = routine_of (callbacks_at p (own_filter at)) r in
-      generic_good at callbacks r routine c grant granted refused k (rw callbacks_is (named (spot at).filter place.Generic r served))
+      generic_good at (routine_of callbacks r) routine c grant granted refused k
+      (rw callbacks_is (named (spot at).filter place.Generic r served))
 
-  fallible_good : (span : Span) (c : FallibleCall) (granted refused : List Statement) (grant : Bool) →
+  fallible_good : (span : Span) (c : FallibleCall Routine) (granted refused : List Statement) (grant : Bool) →
       out-Statement st ≡ Statement-F.If span (condition.Succeeds c) granted refused →
       Good p m (fallible_step p m.trace m.world a grant (granted ++ rest) (refused ++ rest) c)
   fallible_good span c granted refused grant e =
       let i = if_here (spot at) span (condition.Succeeds c) granted refused e in
-      let k = at_call at (graph.fallible callbacks c) i.0 i.1.0 i.1.1 (granted ++ rest) (refused ++ rest)
+      let k = at_call at (resolved.Fallible (numbered callbacks c)) i.0 i.1.0 i.1.1 (granted ++ rest) (refused ++ rest)
       (ap (λ y. remaining_of y rest true) e) (ap (λ y. remaining_of y rest false) e) in
       call_good c i.0 i.1.0 grant (granted ++ rest) (refused ++ rest) i.1.1 k
 

@@ -47,7 +47,8 @@ use Rattle.flt_model.specs.declared.event.Object.TheVariants.{Context, Visit}
 use Rattle.flt_model.specs.Effects.{loses_context}
 use Rattle.flt_model.specs.Program.{callbacks_at, has_pre, has_post, is_paired, are_paired}
 use Rattle.flt_model.specs.Runs.{Moment}
-use Rattle.flt_model.specs.Settling.{settles_visit, is_returned, given_by, way_of, way_by, is_led, makes_frame, settled_by, Way, led}
+use Rattle.flt_model.specs.declared.settling.Way.{Way}
+use Rattle.flt_model.specs.Settling.{settles_visit, is_returned, given_by, way_of, way_by, is_led, makes_frame, settled_by, led}
 use Rattle.flt_model.specs.Statuses.{may_answer, may_hand, fits_canceled, may_pend}
 use Rattle.flt_model.specs.World.{Route, route_at, with_route, Store, arrival_of, visit_at}
 use Rattle.flt_sound.proofs.sums.Turns.{settle_turned}

@@ -31,7 +31,8 @@ use Rattle.flt_model.specs.declared.event.Object.TheVariants.{Context, Visit}
 use Rattle.flt_model.specs.Program.{callbacks_at, has_post}
 use Rattle.flt_model.specs.Returns.{returns, returned, ends}
 use Rattle.flt_model.specs.Runs.{Moment}
-use Rattle.flt_model.specs.Settling.{Way, lead, way_by, way_of, makes_frame, settles_visit, settled_by}
+use Rattle.flt_model.specs.declared.settling.Way.{Way}
+use Rattle.flt_model.specs.Settling.{lead, way_by, way_of, makes_frame, settles_visit, settled_by}
 use Rattle.flt_model.specs.Statuses.{may_answer, is_possessed}
 use Rattle.flt_model.specs.Trace.{gains, loses, one_if, is_held}
 use Rattle.flt_model.specs.World.{Store, Activation, activation_at, arrival_of, visit_at}

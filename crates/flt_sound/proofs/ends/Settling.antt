@@ -12,7 +12,9 @@ use Rattle.flt_tree.specs.declared.filter.Status.{Status}
 use Rattle.flt_tree.specs.declared.filter.Status.TheVariants as status
 use Rattle.flt_model.specs.declared.event.Answer.{Answer}
 use Rattle.flt_model.specs.Program.{callbacks_at, has_post}
-use Rattle.flt_model.specs.Settling.{Way, Passes, Frames, Ends, Rises, Stays, way_before, way_after, way_by, way_of, settles_visit}
+use Rattle.flt_model.specs.declared.settling.Way.{Way}
+use Rattle.flt_model.specs.declared.settling.Way.TheVariants.{Passes, Frames, Ends, Rises, Stays}
+use Rattle.flt_model.specs.Settling.{way_before, way_after, way_by, way_of, settles_visit}
 use Rattle.flt_model.specs.Settling.{asks_for_frame, led, is_led, lead, settled_by, is_returned, given_by}
 use Rattle.flt_model.specs.World.{Store, Route, Frame, visit_at, arrival_of, arrival_at, route_at, with_route}
 use Rattle.flt_sound.proofs.sums.Eaches.{Each, each_push, route_set}

@@ -18,7 +18,9 @@ use Rattle.flt_tree.specs.declared.filter.Filter.{Filter}
 use Rattle.flt_model.specs.Moves.{is_entry_of, other_entries, canceled_by, canceled, work_by}
 use Rattle.flt_model.specs.Program.{callbacks_at, is_canceled, body_of, body_at, place_at, place_for}
 use Rattle.flt_model.specs.Runs.{Moment}
-use Rattle.flt_model.specs.World.{Store, Entry, Item, route_at, queue_at, item_at, presence_at, is_detaching, with_queue}
+use Rattle.flt_model.specs.declared.parts.Entry.{Entry}
+use Rattle.flt_model.specs.declared.parts.Item.{Item}
+use Rattle.flt_model.specs.World.{Store, route_at, queue_at, item_at, presence_at, is_detaching, with_queue}
 use Rattle.flt_model.specs.Violations.{in_queue, in_some}
 use Rattle.flt_model.specs.declared.event.Object.TheVariants.{Context}
 use Rattle.flt_sound.specs.Soundness.{AreAccepted}

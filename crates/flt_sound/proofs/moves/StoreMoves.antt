@@ -19,9 +19,17 @@ use Rattle.flt_model.specs.Moves.{with_arrival, fits_mode, arrive, calls_pre, sk
 use Rattle.flt_model.specs.Moves.{is_done, cancel, detach, unlink_by, unlink, is_drained, detached, stores}
 use Rattle.flt_model.specs.Runs.{Moment}
 use Rattle.flt_model.specs.World as world
-use Rattle.flt_model.specs.World.{World, Store, Arrival, Entry, Frame, Item, Route, Position, Down, Up, Visiting, no_route, no_visit}
+use Rattle.flt_model.specs.declared.parts.Presence.{Presence}
+use Rattle.flt_model.specs.declared.parts.Presence.TheVariants.{Detaching, Detached}
+use Rattle.flt_model.specs.declared.parts.Arrival.{Arrival}
+use Rattle.flt_model.specs.declared.parts.Entry.{Entry}
+use Rattle.flt_model.specs.declared.parts.Item.{Item}
+use Rattle.flt_model.specs.declared.parts.Position.{Position}
+use Rattle.flt_model.specs.declared.parts.Position.TheVariants.{Down, Visiting, Up}
+use Rattle.flt_model.specs.World.{World, Store, Frame, Route, no_route, no_visit}
 use Rattle.flt_model.specs.World.{no_arrival, arrival_at, route_at, queue_at, item_at, presence_at, is_detaching, is_attached, linked_at}
-use Rattle.flt_model.specs.World.{with_route, with_queue, with_presence, Link, context_at, no_context, is_linked_to}
+use Rattle.flt_model.specs.declared.parts.Link.{Link}
+use Rattle.flt_model.specs.World.{with_route, with_queue, with_presence, context_at, no_context, is_linked_to}
 use Rattle.flt_sound.proofs.sums.Counts.{counts}
 use Rattle.flt_sound.proofs.sums.Differences.{in_frame, in_route}
 use Rattle.flt_sound.proofs.sums.Ledger.{Ledger, still, moved}
@@ -117,7 +125,7 @@ module _ (p : List Filter) (m : Moment) (k : Kept p m) where
 
   -- ---- a filter's presence
 
-  presence_good : (f : ℕ) (x : world.Presence) → Good p m (stores m.world (with_presence s f x) [])
+  presence_good : (f : ℕ) (x : Presence) → Good p m (stores m.world (with_presence s f x) [])
   presence_good f x =
       let new = with_presence s f x in
       let old = k.stored in
@@ -128,11 +136,11 @@ module _ (p : List Filter) (m : Moment) (k : Kept p m) where
 
   -- the beginning of a filter's detachment is good
   pub detach_good : (f : ℕ) → AfterStep (detach m.world f) (Good p m)
-  detach_good f = cond_good (is_attached (presence_at s f)) _ (presence_good f world.Detaching)
+  detach_good f = cond_good (is_attached (presence_at s f)) _ (presence_good f Detaching)
 
   -- the end of a filter's detachment is good
   pub detached_good : (f : ℕ) → AfterStep (detached m.world f) (Good p m)
-  detached_good f = cond_good (is_detaching (presence_at s f) && is_drained m.world f) _ (presence_good f world.Detached)
+  detached_good f = cond_good (is_detaching (presence_at s f) && is_drained m.world f) _ (presence_good f Detached)
 
   -- ---- one more operation
 

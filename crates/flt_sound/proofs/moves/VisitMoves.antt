@@ -20,9 +20,15 @@ use Rattle.flt_model.specs.Moves.{post_by, post_at, is_frame_of, other_frames, d
 use Rattle.flt_model.specs.Program.{callbacks_at, has_pre, is_pre_of, is_post_of}
 use Rattle.flt_model.specs.Runs.{Moment}
 use Rattle.flt_model.specs.World as world
-use Rattle.flt_model.specs.World.{World, Store, Arrival, Entry, Frame, Item, Route, Position, Down, Up, Visiting, no_route, no_visit}
+use Rattle.flt_model.specs.declared.parts.Arrival.{Arrival}
+use Rattle.flt_model.specs.declared.parts.Entry.{Entry}
+use Rattle.flt_model.specs.declared.parts.Item.{Item}
+use Rattle.flt_model.specs.declared.parts.Position.{Position}
+use Rattle.flt_model.specs.declared.parts.Position.TheVariants.{Down, Visiting, Up}
+use Rattle.flt_model.specs.World.{World, Store, Frame, Route, no_route, no_visit}
 use Rattle.flt_model.specs.World.{no_arrival, arrival_at, route_at, queue_at, item_at, presence_at, is_detaching, is_attached, linked_at}
-use Rattle.flt_model.specs.World.{with_route, with_queue, with_presence, Link, context_at, no_context, is_linked_to}
+use Rattle.flt_model.specs.declared.parts.Link.{Link}
+use Rattle.flt_model.specs.World.{with_route, with_queue, with_presence, context_at, no_context, is_linked_to}
 use Rattle.flt_model.specs.Trace.{one_if}
 use Rattle.flt_model.specs.Violations.{in_some}
 use Rattle.flt_model.specs.declared.event.Object.TheVariants.{Context}

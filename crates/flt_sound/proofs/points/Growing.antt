@@ -11,7 +11,10 @@ use Rattle.flt_rules.specs.declared.place.Stage.{Stage}
 use Rattle.flt_rules.specs.declared.place.Stage.TheVariants as stage
 use Rattle.flt_tree.specs.declared.filter.Filter.{Filter}
 use Rattle.flt_model.specs.World as world
-use Rattle.flt_model.specs.World.{Actor, Arrival, Entry, Item, no_visit, no_arrival}
+use Rattle.flt_model.specs.declared.parts.Arrival.{Arrival}
+use Rattle.flt_model.specs.declared.parts.Entry.{Entry}
+use Rattle.flt_model.specs.declared.parts.Item.{Item}
+use Rattle.flt_model.specs.World.{Actor, no_visit, no_arrival}
 use Rattle.flt_sound.proofs.sums.Eaches.{Each}
 use Rattle.flt_sound.proofs.sums.Shadows.{Shadow}
 use Rattle.flt_sound.proofs.points.Stored.{visit_in, arrival_in, IsVisit, IsGiven, IsBefore, Given, FitsQueue, IsItem, Stood}

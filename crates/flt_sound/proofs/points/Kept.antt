@@ -18,7 +18,8 @@ use Rattle.flt_model.specs.Effects.{Step}
 use Rattle.flt_model.specs.Runs.{Moment, after}
 use Rattle.flt_model.specs.Trace.{gains, loses, settles, frees}
 use Rattle.flt_model.specs.Violations.{no_leak, legal_statuses, levels_kept, is_disciplined, legal_places, along}
-use Rattle.flt_model.specs.World.{Store, Link, context_at, Activation, nobody, actor_at, activation_at, is_settled}
+use Rattle.flt_model.specs.declared.parts.Link.{Link}
+use Rattle.flt_model.specs.World.{Store, context_at, Activation, nobody, actor_at, activation_at, is_settled}
 use Rattle.flt_sound.proofs.sums.Belonging.{IsOf, Mine}
 use Rattle.flt_sound.proofs.sums.Counts.{counts, Has, made}
 use Rattle.flt_sound.proofs.sums.Differences.{queued, working, unsettled, elsewhere, linked}

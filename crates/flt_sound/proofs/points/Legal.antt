@@ -17,8 +17,9 @@ use Rattle.flt_rules.specs.declared.place.Place.{Place}
 use Rattle.flt_tree.specs.declared.filter.Filter.{Filter}
 use Rattle.flt_tree.specs.declared.filter.Lock.{Lock}
 use Rattle.flt_tree.specs.declared.filter.Statement.{Statement}
+use Rattle.flt_graph.specs.Instruction.{roles}
 use Rattle.flt_graph.specs.declared.instruction.Instruction.TheVariants as instruction
-use Rattle.flt_graph.specs.declared.instruction.Invocation.{Invocation}
+use Rattle.flt_graph.specs.declared.instruction.ResolvedCall.{ResolvedCall}
 use Rattle.flt_abs.specs.Breaks.{breaks}
 use Rattle.flt_abs.specs.Setting.{kind_at}
 use Rattle.flt_abs.specs.State.{Situation, has_draining}
@@ -85,16 +86,16 @@ module _ {p : List Filter} {m : Moment} {a : ℕ} {s : Shadow} (at : IsAt p m a 
   spot = (stood_at at).placed
 
   -- a call at its point is cleared
-  pub cleared : (c : Invocation) (granted refused : ℕ) → here spot ≡ instruction.Call c granted refused → Cleared p m a c.call
+  pub cleared : (c : ResolvedCall) (granted refused : ℕ) → here spot ≡ instruction.Call c granted refused → Cleared p m a (roles c).call
   cleared c granted refused e =
       let q = spot in
       let f : Fine (breaks (setting_here q) q.state (instruction.Call c granted refused)) =
       fine q (instruction.Call c granted refused) e in
-      let r08 = or_parts (not (has_place (row c.call).places (setting_here q).place)) _ f.r08 in
+      let r08 = or_parts (not (has_place (row (roles c).call).places (setting_here q).place)) _ f.r08 in
       let locks : (activation_at m.world a).locks ≡ s.locks = ap (λ act. act.locks) (activation_is at) in
       record {
         low = rw (locks, ← level_is q) (ap not f.r07);
-        in_place = and_from _ _ (subst (λ l. has_place (row c.call).places l ≡ true) (place_same q) (not-false _ r08.0))
+        in_place = and_from _ _ (subst (λ l. has_place (row (roles c).call).places l ≡ true) (place_same q) (not-false _ r08.0))
             (draining_fits q.state.draining.yes q.state.draining.no (actor_at m.world a).draining
-            (is_legal_in_draining c.call) q.means.draining r08.1);
+            (is_legal_in_draining (roles c).call) q.means.draining r08.1);
       }

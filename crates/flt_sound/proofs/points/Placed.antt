@@ -23,7 +23,6 @@ use Rattle.flt_tree.specs.declared.filter.Statement.{Statement, out-Statement}
 use Rattle.flt_tree.specs.declared.filter.Statement.TheOpen.{Statement-F}
 use Rattle.flt_tree.specs.declared.filter.Status.{Status}
 use Rattle.flt_graph.specs.Graph.{point_in, callback_at, place_at, instruction_at, points_at}
-use Rattle.flt_graph.specs.Instruction.{plain}
 use Rattle.flt_graph.specs.Lowering.{AreGraphsOf, IsGraphOf, IsLowered, end_of}
 use Rattle.flt_graph.specs.Points.{Stands, end, before, again, StandsAt, IsFirst, IsLeftOf, instruction_of, choice, remaining, successor}
 use Rattle.flt_graph.specs.Served.{IsInstructionServed}
@@ -32,6 +31,7 @@ use Rattle.flt_graph.specs.declared.graph.Graph.{Graph}
 use Rattle.flt_graph.specs.declared.graph.Point.{Point}
 use Rattle.flt_graph.specs.declared.instruction.Instruction.{Instruction}
 use Rattle.flt_graph.specs.declared.instruction.Instruction.TheVariants as instruction
+use Rattle.flt_graph.specs.declared.instruction.ResolvedCall.TheVariants as resolved
 use Rattle.flt_abs.specs.Breaks.{breaks, rules, first_broken}
 use Rattle.flt_abs.specs.Outcome.{may_come_out, leaves, side, Reaches}
 use Rattle.flt_abs.specs.Setting as abs
@@ -354,7 +354,7 @@ module _ {p : List Filter} {f : ℕ} {place : Place} {s : Statement} {rest : Lis
 
   -- a plain call's point is that call, which goes on to one point
   pub call_here : (span : Span) (c : PlainCall) → out-Statement s ≡ Statement-F.Call span c → (after : ℕ)
-      × (here q ≡ instruction.Call (plain c) after after)
+      × (here q ≡ instruction.Call (resolved.Plain c) after after)
   call_here span c e = let h = first_here (Statement-F.Call span c) e in (h.after, same_there h (Statement-F.Call span c) h.left)
 
   -- a return's point is that return

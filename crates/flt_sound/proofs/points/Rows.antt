@@ -18,9 +18,11 @@ use Rattle.flt_tree.specs.declared.filter.Statement.{Statement}
 use Rattle.flt_tree.specs.declared.variable.ContextVariable.{ContextVariable}
 use Rattle.flt_tree.specs.declared.variable.OperationVariable.{OperationVariable}
 use Rattle.flt_tree.specs.declared.variable.OperationVariable.TheVariants.{Data}
+use Rattle.flt_graph.specs.Instruction.{roles}
 use Rattle.flt_graph.specs.Points.{remaining}
 use Rattle.flt_graph.specs.declared.instruction.Instruction.TheVariants as instruction
 use Rattle.flt_graph.specs.declared.instruction.Invocation.{Invocation}
+use Rattle.flt_graph.specs.declared.instruction.ResolvedCall.{ResolvedCall}
 use Rattle.flt_abs.specs.Breaks.{row_breaks, action_breaks, test_breaks, lacks_context, lacks_operation}
 use Rattle.flt_abs.specs.Outcome.{called, failed, can_fail, acted, may_find}
 use Rattle.flt_abs.specs.State.{Situation, State}
@@ -90,15 +92,15 @@ module _ {p : List Filter} {m : Moment} {a : ℕ} {s : Shadow} (at : IsAt p m a 
     pub fails : (e : Effects) → (row inv.call).on_fail ≡ Some e → (gives : Bool) → PlacedAt refused (called inv e gives before)
 
   -- a call that is the point's instruction
-  pub at_call : (inv : Invocation) (x y : ℕ) → here (spot at) ≡ instruction.Call inv x y → (granted refused : List Statement) →
-      remaining s.rest true ≡ Some granted → remaining s.rest false ≡ Some refused → AtCall inv granted refused
-  at_call inv x y e granted refused g r =
-      let i = instruction.Call inv x y in
+  pub at_call : (c : ResolvedCall) (x y : ℕ) → here (spot at) ≡ instruction.Call c x y → (granted refused : List Statement) →
+      remaining s.rest true ≡ Some granted → remaining s.rest false ≡ Some refused → AtCall (roles c) granted refused
+  at_call c x y e granted refused g r =
+      let i = instruction.Call c x y in
       record {
-        clear = cleared at inv x y e;
+        clear = cleared at c x y e;
         fine = fine (spot at) i e;
         ok = λ gives. goes_on (spot at) i e true gives refl granted g;
-        fails = λ f h gives. subst (λ o. PlacedAt refused (failed inv o gives before)) h
+        fails = λ f h gives. subst (λ o. PlacedAt refused (failed (roles c) o gives before)) h
             (goes_on (spot at) i e false gives (ap can_fail h) refused r);
       }
 

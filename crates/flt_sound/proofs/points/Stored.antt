@@ -19,7 +19,11 @@ use Rattle.flt_tree.specs.declared.variable.RemovedVariable.{RemovedVariable}
 use Rattle.flt_model.specs.Moves.{fits_mode}
 use Rattle.flt_model.specs.Program.{callbacks_at, has_head, has_pre, has_post, is_canceled, place_at}
 use Rattle.flt_model.specs.World as world
-use Rattle.flt_model.specs.World.{World, Store, Link, context_at, Actor, Activation, Arrival, Entry, Frame, Item, no_visit, no_arrival}
+use Rattle.flt_model.specs.declared.parts.Arrival.{Arrival}
+use Rattle.flt_model.specs.declared.parts.Entry.{Entry}
+use Rattle.flt_model.specs.declared.parts.Item.{Item}
+use Rattle.flt_model.specs.declared.parts.Link.{Link}
+use Rattle.flt_model.specs.World.{World, Store, context_at, Actor, Activation, Frame, no_visit, no_arrival}
 use Rattle.flt_model.specs.World.{nobody, actor_at, activation_at, queue_at, item_at, route_at, arrival_at, visit_at, is_settled}
 use Rattle.flt_sound.proofs.sums.Eaches.{Each}
 use Rattle.flt_sound.proofs.sums.Shadows.{Owns, value_of, Shadow, situation, operation_slot}

@@ -31,6 +31,7 @@ use Rattle.flt_tree.specs.declared.filter.FallibleCall.TheVariants as fallible
 use Rattle.flt_tree.specs.declared.filter.Filter.{Filter}
 use Rattle.flt_tree.specs.declared.filter.PlainCall.{PlainCall}
 use Rattle.flt_tree.specs.declared.filter.PlainCall.TheVariants as plain_call
+use Rattle.flt_tree.specs.declared.filter.Routine.{Routine}
 use Rattle.flt_tree.specs.declared.filter.Statement.{Statement, out-Statement}
 use Rattle.flt_tree.specs.declared.filter.Statement.TheOpen.{Statement-F}
 use Rattle.flt_tree.specs.declared.filter.Status.{Status}
@@ -53,14 +54,21 @@ use Rattle.flt_model.specs.Effects.{Step, after_unlink}
 use Rattle.flt_model.specs.Program.{callbacks_at, routine_of, has_post}
 use Rattle.flt_model.specs.Reads.{put_value, read_value_of, write_value_of, read_file_of, test_irp_of}
 use Rattle.flt_model.specs.Returns.{returned, returns}
-use Rattle.flt_model.specs.Settling.{Way, Passes, Frames, Ends, Rises, Stays, way_by, way_of, given_by, is_returned}
+use Rattle.flt_model.specs.declared.settling.Way.{Way}
+use Rattle.flt_model.specs.declared.settling.Way.TheVariants.{Passes, Frames, Ends, Rises, Stays}
+use Rattle.flt_model.specs.Settling.{way_by, way_of, given_by, is_returned}
 use Rattle.flt_model.specs.Settling.{settles_visit, asks_for_frame, led, is_led, lead, settled_by}
 use Rattle.flt_model.specs.Steps.{may_go, leaves_choice, may_be_refused, act_step, plain_step}
 use Rattle.flt_model.specs.Steps.{fallible_step, test_step, if_step, statement_step, list_step}
 use Rattle.flt_model.specs.Trace.{one_if}
 use Rattle.flt_model.specs.Variables.{context_in, operation_in, named_in}
 use Rattle.flt_model.specs.World as world
-use Rattle.flt_model.specs.World.{World, Store, Activation, Entry, Item, Link, Route, Visit, Presence, Attached, Detaching, Detached}
+use Rattle.flt_model.specs.declared.parts.Entry.{Entry}
+use Rattle.flt_model.specs.declared.parts.Item.{Item}
+use Rattle.flt_model.specs.declared.parts.Link.{Link}
+use Rattle.flt_model.specs.declared.parts.Presence.{Presence}
+use Rattle.flt_model.specs.declared.parts.Presence.TheVariants.{Attached, Detaching, Detached}
+use Rattle.flt_model.specs.World.{World, Store, Activation, Route, Visit}
 use Rattle.flt_model.specs.World.{no_context, no_route, no_visit, nobody, activation_at, actor_at, arrival_of, context_at, is_attached}
 use Rattle.flt_model.specs.World.{is_freed, is_settled, linked_at, presence_at, queue_at, route_at, visit_at, with_queue, with_route}
 use Rattle.flt_sound.proofs.points.Local.{AfterStep}
@@ -443,7 +451,7 @@ module _ (w : World) (a f : ℕ) (fit : (actor_at w a).filter ≡ f → is_attac
       plain_small rest plain_call.CompletePendedPostOperation = complete_post_small rest (operation_in here Data)
 
       -- a call that can fail, refused where it may be
-      fallible_small : (granted refused : List Statement) (c : FallibleCall) →
+      fallible_small : (granted refused : List Statement) (c : FallibleCall Routine) →
           Small (fallible_step p t w a (not (may_be_refused c)) granted refused c)
       fallible_small granted refused (fallible.AllocateContext d) = allocate_small d false granted refused
       fallible_small granted refused (fallible.GetContext on d) =

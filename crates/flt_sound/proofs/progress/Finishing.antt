@@ -17,7 +17,8 @@ use Rattle.flt_model.specs.Effects.{Step}
 use Rattle.flt_model.specs.Runs.{Moment, run_from, after, next}
 use Rattle.flt_model.specs.LocalSteps.{local_step}
 use Rattle.flt_model.specs.Steps.{Transition, Local, Board, local, board, moved_on}
-use Rattle.flt_model.specs.World.{World, Activation, Detached, nobody, actor_at, activation_at, presence_at, is_attached}
+use Rattle.flt_model.specs.declared.parts.Presence.TheVariants.{Detached}
+use Rattle.flt_model.specs.World.{World, Activation, nobody, actor_at, activation_at, presence_at, is_attached}
 use Rattle.flt_sound.specs.Progress.{AreOrderly, is_own_step, CallbacksCanEnd}
 use Rattle.flt_sound.proofs.points.Local.{AfterStep}
 use Rattle.flt_sound.proofs.points.Placed.{Laws}

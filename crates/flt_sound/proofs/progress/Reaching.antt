@@ -18,7 +18,10 @@ use Rattle.flt_model.specs.Moves.{calls_pre, skip_at, lower_at, carried_out, is_
 use Rattle.flt_model.specs.Program.{HasDistinctAltitudes, filter_at, filter_of, no_filter, callbacks_at, has_pre}
 use Rattle.flt_model.specs.Runs.{Moment, run_from, after, next}
 use Rattle.flt_model.specs.Steps.{Transition, Make, Local, Board}
-use Rattle.flt_model.specs.World.{Store, Frame, Route, Visit, Position, Detached, Down, Up, Visiting, no_route, actor_at}
+use Rattle.flt_model.specs.declared.parts.Position.{Position}
+use Rattle.flt_model.specs.declared.parts.Position.TheVariants.{Down, Visiting, Up}
+use Rattle.flt_model.specs.declared.parts.Presence.TheVariants.{Detached}
+use Rattle.flt_model.specs.World.{Store, Frame, Route, Visit, no_route, actor_at}
 use Rattle.flt_model.specs.World.{arrival_at, presence_at, route_at, visit_at, is_attached, is_settled, with_route}
 use Rattle.flt_sound.specs.Progress.{is_unloading, is_winding_up, AllCanRest, AreOrderly, CanRest, OperationsCanComplete}
 use Rattle.flt_sound.proofs.sums.Counts.{one_if-same}

@@ -25,8 +25,13 @@ use Rattle.flt_model.specs.Program.{filter_of, callbacks_at, body_for, is_cancel
 use Rattle.flt_model.specs.Runs.{Moment, run_from, after, next}
 use Rattle.flt_model.specs.Steps.{Transition, Make, Local, Board}
 use Rattle.flt_model.specs.World as world
-use Rattle.flt_model.specs.World.{World, Store, Entry, Frame, Route, Item, Link, Visit, Presence, Attached, Detaching}
-use Rattle.flt_model.specs.World.{Detached, no_route, no_context, activation_at, presence_at, queue_at, item_at, route_at}
+use Rattle.flt_model.specs.declared.parts.Entry.{Entry}
+use Rattle.flt_model.specs.declared.parts.Item.{Item}
+use Rattle.flt_model.specs.declared.parts.Link.{Link}
+use Rattle.flt_model.specs.declared.parts.Presence.{Presence}
+use Rattle.flt_model.specs.declared.parts.Presence.TheVariants.{Attached, Detaching, Detached}
+use Rattle.flt_model.specs.World.{World, Store, Frame, Route, Visit}
+use Rattle.flt_model.specs.World.{no_route, no_context, activation_at, presence_at, queue_at, item_at, route_at}
 use Rattle.flt_model.specs.World.{visit_at, context_at, linked_at, is_attached, is_detaching, is_linked_to, same_key}
 use Rattle.flt_model.specs.World.{with_route, with_queue, with_presence, with_link, drop_reference}
 use Rattle.flt_sound.specs.Progress.{AreOrderly, is_own_step, is_unloading, CanUnload, FiltersCanUnload}

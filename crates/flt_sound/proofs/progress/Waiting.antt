@@ -35,7 +35,8 @@ use Rattle.flt_model.specs.Locks.{holders_of, may_join, is_free_for}
 use Rattle.flt_model.specs.Program.{no_filter}
 use Rattle.flt_model.specs.Runs.{Moment, next}
 use Rattle.flt_model.specs.Steps.{Local, Board, leaves_choice, may_take, may_go, statement_step, list_step, moved_on}
-use Rattle.flt_model.specs.World.{Activation, Holder, nobody, actor_at, activation_at}
+use Rattle.flt_model.specs.declared.parts.Holder.{Holder}
+use Rattle.flt_model.specs.World.{Activation, nobody, actor_at, activation_at}
 use Rattle.flt_order.specs.Order.{taken_by, taken_by_call}
 use Rattle.flt_order.specs.declared.order.Acquisition.{Acquisition}
 use Rattle.flt_sound.specs.Progress.{IsOrderly, AreOrderly, can_go_on, NoDeadlock}

@@ -19,7 +19,9 @@ use Rattle.flt_model.specs.LocalSteps.{after_action, after_statement, goes_on_to
 use Rattle.flt_model.specs.Variables.{with_number, with_context_in, with_operation_in, expression_value}
 use Rattle.flt_model.specs.Runs.{Moment, start, after, next, run, run_from}
 use Rattle.flt_model.specs.Steps.{Transition, Make, Local, Board, list_step, moved_on}
-use Rattle.flt_model.specs.World.{World, Activation, Holder, Attached, Detached, opening, holders_at}
+use Rattle.flt_model.specs.declared.parts.Holder.{Holder}
+use Rattle.flt_model.specs.declared.parts.Presence.TheVariants.{Attached, Detached}
+use Rattle.flt_model.specs.World.{World, Activation, opening, holders_at}
 use Rattle.flt_model.specs.World.{nobody, no_actor, actor_at, activation_at, presence_at, queue_at}
 use Rattle.flt_sound.specs.Rest.{IsGone, UnloadingLeaksNothing}
 use Rattle.flt_sound.specs.Soundness.{AreAccepted}

@@ -14,7 +14,8 @@ use Rattle.flt_rules.specs.declared.call.LockNumber.{LockNumber}
 use Rattle.flt_rules.specs.declared.held.Access.{Access}
 use Rattle.flt_rules.specs.declared.held.HeldLock.{HeldLock}
 use Rattle.flt_model.specs.Locks.{holders_of, with_holders, with_holder, without_holder}
-use Rattle.flt_model.specs.World.{World, Store, Actor, Activation, Holder, no_actor, nobody, actor_at, activation_at, holders_at}
+use Rattle.flt_model.specs.declared.parts.Holder.{Holder}
+use Rattle.flt_model.specs.World.{World, Store, Actor, Activation, no_actor, nobody, actor_at, activation_at, holders_at}
 use Rattle.flt_sound.proofs.sums.Eaches.{Each, each_push, each_map, within}
 
 -- whether a lock of this place is in the list

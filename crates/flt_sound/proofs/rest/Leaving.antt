@@ -21,6 +21,7 @@ use Rattle.flt_tree.specs.declared.variable.OperationVariable.{OperationVariable
 use Rattle.flt_tree.specs.declared.variable.OperationVariable.TheVariants.{Data}
 use Rattle.flt_graph.specs.Instruction as graph
 use Rattle.flt_graph.specs.Points.{remaining_of}
+use Rattle.flt_graph.specs.declared.instruction.ResolvedCall.TheVariants as resolved
 use Rattle.flt_model.specs.Effects.{Step}
 use Rattle.flt_model.specs.Returns.{returns}
 use Rattle.flt_model.specs.Runs.{Moment, next}
@@ -58,7 +59,8 @@ module _ {p : List Filter} {m : Moment} {a : ℕ} (s : Shadow) (st : Statement) 
   plain_apart : (span : Span) (c : PlainCall) → out-Statement st ≡ Statement-F.Call span c → Leaves (plain_step p m.trace m.world a rest c)
   plain_apart span c e =
       let i = call_here (spot at) span c e in
-      by c (at_call at (graph.plain c) i.0 i.0 i.1 rest rest (ap (λ y. remaining_of y rest true) e) (ap (λ y. remaining_of y rest false) e))
+      by c (at_call at (resolved.Plain c) i.0 i.0 i.1 rest rest (ap (λ y. remaining_of y rest true) e)
+      (ap (λ y. remaining_of y rest false) e))
     where
       by : (c : PlainCall) → AtCall at (graph.plain c) rest rest → Leaves (plain_step p m.trace m.world a rest c)
       by (plain_call.DeleteContext c) k = deleted_apart m.world a f ne there rest (context_in (activation_at m.world a) c)

@@ -19,6 +19,7 @@ use Rattle.flt_tree.specs.Variable.{whose}
 use Rattle.flt_tree.specs.declared.filter.FallibleCall.{FallibleCall}
 use Rattle.flt_tree.specs.declared.filter.FallibleCall.TheVariants as fallible
 use Rattle.flt_tree.specs.declared.filter.Filter.{Filter}
+use Rattle.flt_tree.specs.declared.filter.Routine.{Routine}
 use Rattle.flt_tree.specs.declared.filter.Statement.{Statement}
 use Rattle.flt_tree.specs.declared.filter.Status.{Status}
 use Rattle.flt_tree.specs.declared.variable.Atom.{Atom}
@@ -36,11 +37,16 @@ use Rattle.flt_model.specs.Effects.{Step, after_unlink}
 use Rattle.flt_model.specs.Program.{callbacks_at, routine_of}
 use Rattle.flt_model.specs.Reads.{put_value, read_value_of, write_value_of, read_file_of, test_irp_of}
 use Rattle.flt_model.specs.Returns.{returned, returns}
-use Rattle.flt_model.specs.Settling.{Way, Passes, Frames, Ends, Rises, Stays, way_of, settles_visit, led, is_led, lead, settled_by}
+use Rattle.flt_model.specs.declared.settling.Way.{Way}
+use Rattle.flt_model.specs.declared.settling.Way.TheVariants.{Passes, Frames, Ends, Rises, Stays}
+use Rattle.flt_model.specs.Settling.{way_of, settles_visit, led, is_led, lead, settled_by}
 use Rattle.flt_model.specs.Steps.{fallible_step}
 use Rattle.flt_model.specs.Variables.{context_in, operation_in, named_in, with_old}
 use Rattle.flt_model.specs.World as world
-use Rattle.flt_model.specs.World.{World, Store, Activation, Entry, Item, Link, Route, no_context, no_route, nobody, activation_at}
+use Rattle.flt_model.specs.declared.parts.Entry.{Entry}
+use Rattle.flt_model.specs.declared.parts.Item.{Item}
+use Rattle.flt_model.specs.declared.parts.Link.{Link}
+use Rattle.flt_model.specs.World.{World, Store, Activation, Route, no_context, no_route, nobody, activation_at}
 use Rattle.flt_model.specs.World.{actor_at, context_at, is_attached, is_freed, linked_at, presence_at, queue_at, route_at, visit_at}
 use Rattle.flt_model.specs.World.{add_reference, drop_reference, with_context, with_link, with_queue, with_route}
 use Rattle.flt_sound.proofs.sums.Counts.{one_if-other}
@@ -439,7 +445,7 @@ module _ (w : World) (a f : ℕ) (ne : (actor_at w a).filter ≢ f) (on : a < le
       returns_apart st h = returned_apart st (answers (actor_at w a).place) (operation_in here Data) h
 
       -- each call that can fail leaves the filter as it is, granted or refused
-      pub fallible_apart : (grant : Bool) (granted refused : List Statement) (c : FallibleCall) →
+      pub fallible_apart : (grant : Bool) (granted refused : List Statement) (c : FallibleCall Routine) →
           LeavesIt (fallible_step p t w a grant granted refused c)
       fallible_apart grant granted refused (fallible.AllocateContext d) = allocate_apart d grant granted refused
       fallible_apart grant granted refused (fallible.GetContext on d) =

@@ -12,8 +12,11 @@ use Rattle.std.proofs.lemmas.List.Sums.{sum_by-set, sum_by-cons}
 use Rattle.flt_model.specs.Moves.{is_frame_of, has_frame, is_item_of, is_linked_by, has_active, is_empty, is_drained}
 use Rattle.flt_model.specs.Trace.{one_if}
 use Rattle.flt_model.specs.World as world
-use Rattle.flt_model.specs.World.{World, Store, Actor, Activation, Frame, Route, Item, Link}
-use Rattle.flt_model.specs.World.{Entry, no_actor, nobody, actor_at, activation_at, queue_at}
+use Rattle.flt_model.specs.declared.parts.Item.{Item}
+use Rattle.flt_model.specs.declared.parts.Link.{Link}
+use Rattle.flt_model.specs.World.{World, Store, Actor, Activation, Frame, Route}
+use Rattle.flt_model.specs.declared.parts.Entry.{Entry}
+use Rattle.flt_model.specs.World.{no_actor, nobody, actor_at, activation_at, queue_at}
 use Rattle.flt_sound.proofs.sums.Counts.{one_if-same}
 
 -- ---- how much there is

@@ -24,8 +24,16 @@ use Rattle.flt_model.specs.Moves.{is_entry_of, other_entries, canceled_by, cance
 use Rattle.flt_model.specs.Moves.{drain_by, drain, unlink_by, is_drained, detached, starts, stores, make}
 use Rattle.flt_model.specs.Program.{filter_of}
 use Rattle.flt_model.specs.World as world
-use Rattle.flt_model.specs.World.{World, Store, Actor, Arrival, Frame, Route, Item, Entry, Link, Presence, Attached}
-use Rattle.flt_model.specs.World.{Detaching, Detached, Position, Down, Up, Visiting, no_actor, no_route, nobody}
+use Rattle.flt_model.specs.declared.parts.Arrival.{Arrival}
+use Rattle.flt_model.specs.declared.parts.Entry.{Entry}
+use Rattle.flt_model.specs.declared.parts.Item.{Item}
+use Rattle.flt_model.specs.declared.parts.Link.{Link}
+use Rattle.flt_model.specs.declared.parts.Presence.{Presence}
+use Rattle.flt_model.specs.declared.parts.Presence.TheVariants.{Attached, Detaching, Detached}
+use Rattle.flt_model.specs.World.{World, Store, Actor, Frame, Route}
+use Rattle.flt_model.specs.declared.parts.Position.{Position}
+use Rattle.flt_model.specs.declared.parts.Position.TheVariants.{Down, Visiting, Up}
+use Rattle.flt_model.specs.World.{no_actor, no_route, nobody}
 use Rattle.flt_model.specs.World.{actor_at, activation_at, presence_at, queue_at, item_at, arrival_at, route_at}
 use Rattle.flt_model.specs.World.{linked_at, is_attached, is_detaching, with_route, with_queue, with_presence}
 use Rattle.flt_model.specs.Trace.{one_if}

@@ -18,8 +18,12 @@ use Rattle.flt_model.specs.Runs.{Moment}
 use Rattle.flt_model.specs.Trace.{one_if}
 use Rattle.flt_model.specs.Violations.{in_queue, in_some, in_item}
 use Rattle.flt_model.specs.World as world
-use Rattle.flt_model.specs.World.{World, Store, Entry, Frame, Route, Item, Link, nobody, no_route, no_context, actor_at, activation_at}
-use Rattle.flt_model.specs.World.{queue_at, item_at, route_at, visit_at, context_at, is_settled, is_freed, Holder, holders_at}
+use Rattle.flt_model.specs.declared.parts.Entry.{Entry}
+use Rattle.flt_model.specs.declared.parts.Item.{Item}
+use Rattle.flt_model.specs.declared.parts.Link.{Link}
+use Rattle.flt_model.specs.World.{World, Store, Frame, Route, nobody, no_route, no_context, actor_at, activation_at}
+use Rattle.flt_model.specs.declared.parts.Holder.{Holder}
+use Rattle.flt_model.specs.World.{queue_at, item_at, route_at, visit_at, context_at, is_settled, is_freed, holders_at}
 use Rattle.flt_sound.specs.Rest.{IsGone}
 use Rattle.flt_sound.proofs.sums.Belonging.{Belongs, BelongsItem}
 use Rattle.flt_sound.proofs.sums.Counts.{one_if-other}

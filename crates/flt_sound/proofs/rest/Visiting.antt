@@ -8,8 +8,12 @@ use Rattle.std.proofs.Math.ListN.{set, get_or, get_or-append}
 use Rattle.std.proofs.Math.Seq.{get_or-append_seam}
 use Rattle.std.proofs.lemmas.Bool.{cases_eq, cases_lt, and_from}
 use Rattle.std.proofs.lemmas.List.{get_or_past, get_or-set_same, get_or-set_other, set_past, length-append}
-use Rattle.flt_model.specs.Settling.{Way, Passes, Frames, Ends, Rises, Stays, settles_visit, led, is_led, lead, settled_by}
-use Rattle.flt_model.specs.World.{Store, Route, Visit, Position, Visiting, no_route, no_visit, route_at, visit_at, is_settled, with_route}
+use Rattle.flt_model.specs.declared.settling.Way.{Way}
+use Rattle.flt_model.specs.declared.settling.Way.TheVariants.{Passes, Frames, Ends, Rises, Stays}
+use Rattle.flt_model.specs.Settling.{settles_visit, led, is_led, lead, settled_by}
+use Rattle.flt_model.specs.declared.parts.Position.{Position}
+use Rattle.flt_model.specs.declared.parts.Position.TheVariants.{Visiting}
+use Rattle.flt_model.specs.World.{Store, Route, Visit, no_route, no_visit, route_at, visit_at, is_settled, with_route}
 use Rattle.flt_sound.proofs.moves.Starting.{get_or-other}
 
 -- in a visit

@@ -8,7 +8,7 @@ use Rattle.flt_tree.specs.declared.filter.Filter.{Filter}
 use Rattle.flt_model.specs.declared.event.Object.TheVariants.{Context, Visit}
 use Rattle.flt_model.specs.Runs.{Moment, start, next}
 use Rattle.flt_model.specs.Steps.{Transition, Make, Local, Board}
-use Rattle.flt_model.specs.World.{Entry}
+use Rattle.flt_model.specs.declared.parts.Entry.{Entry}
 use Rattle.flt_model.specs.Violations.{in_queue}
 use Rattle.flt_sound.specs.Soundness.{AreAccepted}
 use Rattle.flt_sound.proofs.sums.Belonging.{Belongs}

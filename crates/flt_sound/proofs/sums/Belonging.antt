@@ -6,7 +6,10 @@ use Rattle.std.proofs.Math.ListN.{get_or, get_or-append}
 use Rattle.std.proofs.Math.Seq.{get_or-append_seam}
 use Rattle.std.proofs.lemmas.List.{length-append}
 use Rattle.flt_model.specs.World as world
-use Rattle.flt_model.specs.World.{Store, Entry, Item, Frame, Link, no_context, context_at, queue_at, route_at, item_at}
+use Rattle.flt_model.specs.declared.parts.Entry.{Entry}
+use Rattle.flt_model.specs.declared.parts.Item.{Item}
+use Rattle.flt_model.specs.declared.parts.Link.{Link}
+use Rattle.flt_model.specs.World.{Store, Frame, no_context, context_at, queue_at, route_at, item_at}
 use Rattle.flt_sound.proofs.sums.Eaches.{Each, each_map}
 
 -- the context is there, and is the filter's

@@ -11,7 +11,10 @@ use Rattle.std.proofs.lemmas.List.{get_or-set_same, get_or-set_other}
 use Rattle.std.proofs.lemmas.List.Sums.{sum_by-set, sum_by-cons, sum_by_push}
 use Rattle.flt_model.specs.Trace.{one_if}
 use Rattle.flt_model.specs.Violations.{in_queue, in_some, in_item}
-use Rattle.flt_model.specs.World.{Store, Entry, Item, Route, Frame, Link, context_at, is_settled}
+use Rattle.flt_model.specs.declared.parts.Entry.{Entry}
+use Rattle.flt_model.specs.declared.parts.Item.{Item}
+use Rattle.flt_model.specs.declared.parts.Link.{Link}
+use Rattle.flt_model.specs.World.{Store, Route, Frame, context_at, is_settled}
 use Rattle.flt_sound.proofs.sums.Counts.{one_if-same, one_if-other}
 
 -- ---- where a visit stands

@@ -14,7 +14,8 @@ use Rattle.flt_model.specs.declared.event.Object.TheVariants.{Context}
 use Rattle.flt_model.specs.Effects.{freed_by_drop, after_unlink}
 use Rattle.flt_model.specs.Trace.{gains, loses, frees, of_actor}
 use Rattle.flt_model.specs.World as world
-use Rattle.flt_model.specs.World.{Store, Link, no_context, context_at, is_freed, with_context, with_link, add_reference, drop_reference}
+use Rattle.flt_model.specs.declared.parts.Link.{Link}
+use Rattle.flt_model.specs.World.{Store, no_context, context_at, is_freed, with_context, with_link, add_reference, drop_reference}
 use Rattle.flt_sound.proofs.sums.Belonging.{IsOf, Mine, Older, mine_on, new_context, older_more}
 use Rattle.flt_sound.proofs.sums.Counts.{counts, of_actor-same, of_actor-other, of_actor-one, of_actor-none, of_actor-more, made_more}
 use Rattle.flt_sound.proofs.sums.Differences.{linked}

@@ -9,11 +9,14 @@ use Rattle.flt_model.specs.declared.event.Event.{Event}
 use Rattle.flt_model.specs.declared.event.Event.TheVariants as event
 use Rattle.flt_model.specs.declared.event.Object.TheVariants.{Context, Visit}
 use Rattle.flt_model.specs.Effects.{loses_context}
-use Rattle.flt_model.specs.Settling.{Way, Passes, Frames, Ends, Rises, Stays, settles_visit, asks_for_frame}
+use Rattle.flt_model.specs.declared.settling.Way.{Way}
+use Rattle.flt_model.specs.declared.settling.Way.TheVariants.{Passes, Frames, Ends, Rises, Stays}
+use Rattle.flt_model.specs.Settling.{settles_visit, asks_for_frame}
 use Rattle.flt_model.specs.Settling.{led, is_led, makes_frame, lead, settled_by}
 use Rattle.flt_model.specs.Trace.{gains, loses, frees}
 use Rattle.flt_model.specs.Violations.{in_some}
-use Rattle.flt_model.specs.World.{Store, Entry, Route, Frame, queue_at, route_at, no_route, visit_at, with_route, with_queue}
+use Rattle.flt_model.specs.declared.parts.Entry.{Entry}
+use Rattle.flt_model.specs.World.{Store, Route, Frame, queue_at, route_at, no_route, visit_at, with_route, with_queue}
 use Rattle.flt_sound.proofs.sums.Belonging.{Belongs, Mine}
 use Rattle.flt_sound.proofs.sums.Counts.{counts, of_actor-same}
 use Rattle.flt_sound.proofs.sums.Differences.{in_frame, in_route, in_line}

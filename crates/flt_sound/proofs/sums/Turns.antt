@@ -10,10 +10,13 @@ use Rattle.flt_model.specs.declared.event.Event.{Event}
 use Rattle.flt_model.specs.declared.event.Event.TheVariants as event
 use Rattle.flt_model.specs.declared.event.Object.TheVariants.{Visit}
 use Rattle.flt_model.specs.Effects.{loses_context, gains_context}
-use Rattle.flt_model.specs.Settling.{Way, settles_visit, is_led, led, lead, settled_by}
+use Rattle.flt_model.specs.declared.settling.Way.{Way}
+use Rattle.flt_model.specs.Settling.{settles_visit, is_led, led, lead, settled_by}
 use Rattle.flt_model.specs.Trace.{gains, loses, settles, one_if}
 use Rattle.flt_model.specs.Violations.{in_some}
-use Rattle.flt_model.specs.World.{Store, Entry, Item, visit_at, route_at, queue_at, is_settled, with_queue, with_route}
+use Rattle.flt_model.specs.declared.parts.Entry.{Entry}
+use Rattle.flt_model.specs.declared.parts.Item.{Item}
+use Rattle.flt_model.specs.World.{Store, visit_at, route_at, queue_at, is_settled, with_queue, with_route}
 use Rattle.flt_sound.proofs.sums.Counts.{counts, of_actor-same}
 use Rattle.flt_sound.proofs.sums.Differences.{queued, working, unsettled, queue_push, queue_pop, item_push, open_settle}
 use Rattle.flt_sound.proofs.sums.Eaches.{within}

@@ -1,29 +1,27 @@
-use Rattle.std.proofs.Common.{◌≡◌, ◌+◌, true, false, sym, ap, subst, ◌∙◌}
+use Rattle.std.proofs.Common.{◌≡◌, ◌+◌, true, false, sym, subst, ◌∙◌}
 use Rattle.std.specs.Prelude.{is_some}
 use Rattle.flt_rules.specs.Table.{row}
-use Rattle.flt_rules.specs.declared.columns.Row.{Row}
+use Rattle.flt_graph.specs.Instruction.{roles}
 use Rattle.flt_graph.specs.declared.instruction.Instruction.{Instruction}
 use Rattle.flt_cert.specs.Counts.{AreCounts}
 use Rattle.flt_graph.specs.Kept.{edge, edges_of}
 use Rattle.flt_cert.proofs.Counted.{both_counted, fails_counted, granted_counted}
 use Rattle.flt_cert.proofs.kept.count_edges.Goals as goal
 
-pub returns-then-is_some : goal.returns-then-is_some
-returns-then-is_some c = λ many counts.
-    let after = c.count_edge-then-is_some.new.edges in
-    let fails : is_some (row c.in-Call.call.call).on_fail ≡ true =
-    ap (λ (r : Row). is_some r.on_fail) (sym c.row.ensures) ∙ (sym c.is_some.ensures ∙ c.if-is_some.true) in
+pub returns-then-can_fail : goal.returns-then-can_fail
+returns-then-can_fail c = λ many counts.
+    let after = c.count_edge-then-can_fail.new.edges in
+    let fails : is_some (row (roles c.in-Call.call).call).on_fail ≡ true = sym c.can_fail.ensures ∙ c.if-can_fail.true in
     subst (λ (i : Instruction). AreCounts after (λ p. many p + edges_of i p)) (sym c.in-Call.is)
-    (fails_counted after many c.in-Call.granted c.in-Call.failed (row c.in-Call.call.call).on_fail fails
-    (c.count_edge-then-is_some.ensures (λ p. many p + edge c.in-Call.granted p) (c.count_edge-in-Call.ensures many counts)))
+    (fails_counted after many c.in-Call.granted c.in-Call.failed (row (roles c.in-Call.call).call).on_fail fails
+    (c.count_edge-then-can_fail.ensures (λ p. many p + edge c.in-Call.granted p) (c.count_edge-in-Call.ensures many counts)))
 
-pub returns-else-is_some : goal.returns-else-is_some
-returns-else-is_some c = λ many counts.
+pub returns-else-can_fail : goal.returns-else-can_fail
+returns-else-can_fail c = λ many counts.
     let after = c.count_edge-in-Call.new.edges in
-    let none : is_some (row c.in-Call.call.call).on_fail ≡ false =
-    ap (λ (r : Row). is_some r.on_fail) (sym c.row.ensures) ∙ (sym c.is_some.ensures ∙ c.if-is_some.false) in
+    let none : is_some (row (roles c.in-Call.call).call).on_fail ≡ false = sym c.can_fail.ensures ∙ c.if-can_fail.false in
     subst (λ (i : Instruction). AreCounts after (λ p. many p + edges_of i p)) (sym c.in-Call.is)
-    (granted_counted after many c.in-Call.granted c.in-Call.failed (row c.in-Call.call.call).on_fail none
+    (granted_counted after many c.in-Call.granted c.in-Call.failed (row (roles c.in-Call.call).call).on_fail none
     (c.count_edge-in-Call.ensures many counts))
 
 pub returns-in-Test : goal.returns-in-Test

@@ -8,5 +8,5 @@ loop-index-preserved c =
     let i = c.loop-index.index in
     let x = c.index-into-index.result in
     let y = c.index-other-index.result in
-    let e : c.either_statuses.result ≡ either_status (get_or c.loop-index.into i x) (get_or c.args.other.now i y) = cc in
+    let e : c.union.result ≡ either_status (get_or c.loop-index.into i x) (get_or c.args.other.now i y) = cc in
     rw (e, add-one) (sym (unite_step c.loop-index.into c.args.other.now i x y (omega arith) (omega arith)) ∙ c.loop-index.invariant)

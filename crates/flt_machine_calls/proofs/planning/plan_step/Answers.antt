@@ -6,8 +6,7 @@ use Rattle.flt_machine_frames.specs.Firsts.{Remains}
 use Rattle.std.proofs.lemmas.Result.{IfOk-weaker}
 use Rattle.flt_tree.specs.declared.filter.Filter.{Filter}
 use Rattle.flt_machine_frames.specs.Loading.{AreLoaded, instruction_in}
-use Rattle.flt_machine_calls.specs.Decoding.{is_ending}
-use Rattle.flt_machine_calls.specs.Plans.{TakesNone, is_end}
+use Rattle.flt_machine_calls.specs.Plans.{TakesNone, is_end, is_ending}
 use Rattle.flt_machine_calls.specs.declared.plans.Plan.{Plan}
 use Rattle.flt_machine_calls.proofs.Lasting.{end_takes}
 use Rattle.flt_machine_calls.proofs.Planned.{Told, act_ends, test_ends, call_ends, return_ends, end_ends, repeat_ends}

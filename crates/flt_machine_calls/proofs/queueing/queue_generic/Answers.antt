@@ -14,7 +14,7 @@ use Rattle.flt_machine_calls.proofs.queueing.queue_generic.Goals as goal
 pub returns-clause-own : goal.returns-clause-own
 returns-clause-own c =
     let a = c.args.caller.now.activation in
-    let x = c.named-named.result in
+    let x = c.named_in-named.result in
     let effect : World → List Statement → List Statement → _ =
     λ w granted refused. calls.queue_by w a c.args.routine c.args.grant granted refused x in
     IfOk-weaker c.queue_by.result

@@ -1,5 +1,5 @@
 use Rattle.std.proofs.Common.{◌≡◌, replicate}
-use Rattle.flt_model.specs.World.{Attached}
+use Rattle.flt_model.specs.declared.parts.Presence.TheVariants.{Attached}
 use Rattle.flt_machine_store.proofs.store.all_attached.Given as goal
 
 abbrev pub invariant-loop : goal.invariant-loop

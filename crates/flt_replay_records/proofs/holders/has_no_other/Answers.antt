@@ -1,4 +1,4 @@
-use Rattle.std.proofs.Common.{◌≡◌, sym, ◌∙◌, length}
+use Rattle.std.proofs.Common.{sym, ◌∙◌, length}
 use Rattle.flt_replay_records.proofs.Slots.{counted_one, counted_none, empty_is}
 use Rattle.flt_replay_records.proofs.holders.has_no_other.Goals as goal
 

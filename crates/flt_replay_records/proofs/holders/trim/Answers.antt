@@ -1,7 +1,7 @@
 use Rattle.std.proofs.Common.{◌≡◌, ◌++◌, ◌∷◌, ◌-◌, [], List, Option, Some, None, sym, ◌∙◌, ap, subst, length, take}
 use Rattle.std.specs.List.{slice_get}
 use Rattle.std.specs.Option.{option_copied}
-use Rattle.flt_model.specs.World.{Holder}
+use Rattle.flt_model.specs.declared.parts.Holder.{Holder}
 use Rattle.flt_replay_records.specs.Slots.{left, ArePlaces}
 use Rattle.flt_replay_records.proofs.Slots.{left_trimmed, places_trimmed, last_empty}
 use Rattle.flt_replay_records.proofs.holders.trim.Goals as goal

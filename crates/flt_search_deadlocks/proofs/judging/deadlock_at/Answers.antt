@@ -17,6 +17,7 @@ returns c =
     let chosen : All (Contains c.in_ok-waits.waits.items) round =
     subst (λ (w : List BlockedActivation). All (Contains w) round) c.as_slice.ensures.value found.0 in
     let judged = c.if-not-is_round.ensures refl in
-    let held : All (IsHeldAmong round) round = subst (λ (r : List BlockedActivation). All (IsHeldAmong r) r) c.as_slice-2.ensures.value judged.1 in
+    let held : All (IsHeldAmong round) round = subst (λ (r : List BlockedActivation). All (IsHeldAmong r) r)
+    c.as_slice-2.ensures.value judged.1 in
     deadlock (filters_of c.args.trees.now) c.args.number c.args.circle.now _ c.in_ok-waits.waits.items c.local_steps_are_runs.ensures
     c.what_waits_is_stuck.ensures chosen found.1 held (λ none. judged.0 (c.as_slice-2.ensures.value ∙ none)) c.in_ok-waits.ensures

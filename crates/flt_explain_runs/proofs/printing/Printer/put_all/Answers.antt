@@ -21,7 +21,8 @@ loop-studied-init g c = record {
 
 pub put_report-requires-clause-text : goal.put_report-requires-clause-text
 put_report-requires-clause-text g c =
-    studied_here c.args.self.now.stage.trees.now c.args.each.now (length c.args.each.now - 1) c.loop-studied.studied-index c.studied-item.result
+    studied_here c.args.self.now.stage.trees.now c.args.each.now
+    (length c.args.each.now - 1) c.loop-studied.studied-index c.studied-item.result
     c.requires.texts c.loop-studied-test.true c.studied-item.is
 
 pub loop-studied-preserved : goal.loop-studied-preserved
@@ -113,7 +114,8 @@ returns-clause-reports g c =
     c.in_ok-report.report c.add.new.self.bytes.items c.in_ok-report.ensures c.in_ok-add.ensures.bytes
     (rw c.end.ensures.total c.in_ok-end.ensures.bytes) (c.end.ensures.noted ∙ c.in_ok-add.ensures.noted)
     (c.end.ensures.total ∙ c.in_ok-add.ensures.total) in
-    all_reports (look_of c.args.self.now) c.args.self.now.stage.trees.now c.args.self.now.files.now c.args.each.now c.loop-studied.studied-index
+    all_reports (look_of c.args.self.now) c.args.self.now.stage.trees.now c.args.self.now.files.now
+    c.args.each.now c.loop-studied.studied-index
     c.last-item.result c.loop-studied.printed c.end.new.self c.in-len1-up.len_at_least c.last-item.is c.requires.texts
     c.loop-studied-test.false c.loop-studied.invariant.printed more
 
@@ -126,7 +128,8 @@ returns-clause-notes g c =
     c.in_ok-report.report c.add.new.self.bytes.items c.in_ok-report.ensures c.in_ok-add.ensures.bytes
     (rw c.end.ensures.total c.in_ok-end.ensures.bytes) (c.end.ensures.noted ∙ c.in_ok-add.ensures.noted)
     (c.end.ensures.total ∙ c.in_ok-add.ensures.total) in
-    all_noted (look_of c.args.self.now) c.args.self.now.stage.trees.now c.args.self.now.files.now c.args.each.now c.loop-studied.studied-index
+    all_noted (look_of c.args.self.now) c.args.self.now.stage.trees.now c.args.self.now.files.now
+    c.args.each.now c.loop-studied.studied-index
     c.last-item.result c.loop-studied.printed c.end.new.self c.in-len1-up.len_at_least c.last-item.is c.requires.texts
     c.loop-studied-test.false c.loop-studied.invariant.printed more
 
@@ -139,7 +142,8 @@ returns-clause-said g c =
     c.in_ok-report.report c.add.new.self.bytes.items c.in_ok-report.ensures c.in_ok-add.ensures.bytes
     (rw c.end.ensures.total c.in_ok-end.ensures.bytes) (c.end.ensures.noted ∙ c.in_ok-add.ensures.noted)
     (c.end.ensures.total ∙ c.in_ok-add.ensures.total) in
-    all_said (look_of c.args.self.now) c.args.self.now.stage.trees.now c.args.self.now.files.now c.args.each.now c.loop-studied.studied-index
+    all_said (look_of c.args.self.now) c.args.self.now.stage.trees.now c.args.self.now.files.now
+    c.args.each.now c.loop-studied.studied-index
     c.last-item.result c.loop-studied.printed c.end.new.self c.in-len1-up.len_at_least c.last-item.is c.requires.texts
     c.loop-studied-test.false c.loop-studied.invariant.printed more
 
@@ -152,7 +156,8 @@ returns-clause-print g c =
     c.in_ok-report.report c.add.new.self.bytes.items c.in_ok-report.ensures c.in_ok-add.ensures.bytes
     (rw c.end.ensures.total c.in_ok-end.ensures.bytes) (c.end.ensures.noted ∙ c.in_ok-add.ensures.noted)
     (c.end.ensures.total ∙ c.in_ok-add.ensures.total) in
-    all_print (look_of c.args.self.now) c.args.self.now.stage.trees.now c.args.self.now.files.now c.args.each.now c.loop-studied.studied-index
+    all_print (look_of c.args.self.now) c.args.self.now.stage.trees.now c.args.self.now.files.now
+    c.args.each.now c.loop-studied.studied-index
     c.last-item.result c.loop-studied.printed c.end.new.self c.in-len1-up.len_at_least c.last-item.is c.requires.texts
     c.loop-studied-test.false c.loop-studied.invariant.printed more
 
@@ -165,7 +170,8 @@ returns-clause-sent g c =
     c.in_ok-report.report c.add.new.self.bytes.items c.in_ok-report.ensures c.in_ok-add.ensures.bytes
     (rw c.end.ensures.total c.in_ok-end.ensures.bytes) (c.end.ensures.noted ∙ c.in_ok-add.ensures.noted)
     (c.end.ensures.total ∙ c.in_ok-add.ensures.total) in
-    all_sent (look_of c.args.self.now) c.args.self.now.stage.trees.now c.args.self.now.files.now c.args.each.now c.loop-studied.studied-index
+    all_sent (look_of c.args.self.now) c.args.self.now.stage.trees.now c.args.self.now.files.now
+    c.args.each.now c.loop-studied.studied-index
     c.last-item.result c.loop-studied.printed c.end.new.self c.in-len1-up.len_at_least c.last-item.is c.requires.texts
     c.loop-studied-test.false c.loop-studied.invariant.printed more
     c.args.is_held _ _ c.requires.parsed (c.end.ensures.sent ∙ c.in_ok-add.ensures.sent) c.loop-studied.invariant.holds

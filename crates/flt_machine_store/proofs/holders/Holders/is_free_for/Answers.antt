@@ -1,8 +1,7 @@
 use Rattle.std.proofs.Common.{rules, ◌≡◌, None, Some, true, ap, sym, ◌∙◌}
 use Rattle.std.proofs.Math.ListN.{get_or}
 use Rattle.std.specs.List.{list_all}
-use Rattle.flt_model.specs.World.{Holder}
-use Rattle.flt_machine_store.specs.Holding.{at_place, is_free, is_of, weight}
+use Rattle.flt_machine_store.specs.Holding.{at_place, is_free, is_of}
 use Rattle.flt_machine_store.proofs.Holding.{free_new_alone, free_new_shared, free_own_alone, free_own_shared}
 use Rattle.flt_machine_store.proofs.Holding.{same_place, stands, stands_so, walk_free, within}
 use Rattle.flt_machine_store.proofs.holders.Holders.is_free_for.Goals as goal
@@ -37,11 +36,9 @@ returns-in-Shared-Some c =
     let read : get_or c.self.inside.places.items c.in-Some.place (Some c.in-Shared-Some.holder) ≡ Some c.in-Shared-Some.holder =
     search rules in
     let holds = sym (same_place c.args.activation c.self.inside.places.items c.in-Some.place (Some c.in-Shared-Some.holder) so) ∙ read in
-    let heavy : c.alone.result ≡ weight c.in-Shared-Some.holder.access =
-    c.alone.ensures ∙ ap (λ (h : Holder). weight h.access) c.holder.view_is in
-    rw (c.in-Shared-Some.is-0, heavy, ← c.self.view_is) (free_own_shared c.self.inside.places.items c.self.inside.noted c.self.inside.noted
-    c.self.inside.count c.self.inside.alone c.args.activation c.in-Some.place c.in-Shared-Some.holder (c.self.invariant c.if-self.false)
-    (sym c.in-Some.is ∙ c.get.ensures) holds)
+    rw (c.in-Shared-Some.is-0, c.alone.ensures, ← c.self.view_is) (free_own_shared c.self.inside.places.items c.self.inside.noted
+    c.self.inside.noted c.self.inside.count c.self.inside.alone c.args.activation c.in-Some.place c.in-Shared-Some.holder
+    (c.self.invariant c.if-self.false) (sym c.in-Some.is ∙ c.get.ensures) holds)
 
 pub returns-in-Shared-None : goal.returns-in-Shared-None
 returns-in-Shared-None c =

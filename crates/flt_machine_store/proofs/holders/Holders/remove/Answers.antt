@@ -1,7 +1,6 @@
 use Rattle.std.proofs.Common.{rules, ◌≡◌, ◌-◌, None, Some, true, ap, sym, ◌∙◌, refl, arith}
 use Rattle.std.proofs.Math.ListN.{get_or}
-use Rattle.flt_model.specs.World.{Holder}
-use Rattle.flt_machine_store.specs.Holding.{at_place, is_of, standing, weight}
+use Rattle.flt_machine_store.specs.Holding.{at_place, is_of, standing}
 use Rattle.flt_machine_store.proofs.Holding.{alone_less, count_less, none_stand, noted_less, noted_none, others_all}
 use Rattle.flt_machine_store.proofs.Holding.{others_stand, same_place, stands, walk_others, within}
 use Rattle.flt_machine_store.proofs.holders.Holders.remove.Goals as goal
@@ -57,11 +56,9 @@ overflow_sub-self-2 c =
     let read : get_or c.self.inside.places.items c.in-Some.place (Some c.in-Some-index.holder) ≡ Some c.in-Some-index.holder =
     search rules in
     let holds = sym (same_place c.args.activation c.self.inside.places.items c.in-Some.place (Some c.in-Some-index.holder) so) ∙ read in
-    let heavy : c.alone.result ≡ weight c.in-Some-index.holder.access =
-    c.alone.ensures ∙ ap (λ (h : Holder). weight h.access) c.holder.view_is in
     let l = alone_less c.self.inside.places.items c.self.inside.noted c.self.inside.noted c.self.inside.count c.self.inside.alone
     c.args.activation c.in-Some.place c.in-Some-index.holder (c.self.invariant c.if-self.false) (sym c.in-Some.is ∙ c.get.ensures) holds in
-    omega (arith, l, heavy)
+    omega (arith, l, c.alone.ensures)
 
 pub invariant_of-self-then-self-eq0 : goal.invariant_of-self-then-self-eq0
 invariant_of-self-then-self-eq0 c = λ f.
@@ -71,12 +68,10 @@ invariant_of-self-then-self-eq0 c = λ f.
     let read : get_or c.self.inside.places.items c.in-Some.place (Some c.in-Some-index.holder) ≡ Some c.in-Some-index.holder =
     search rules in
     let holds = sym (same_place c.args.activation c.self.inside.places.items c.in-Some.place (Some c.in-Some-index.holder) so) ∙ read in
-    let heavy : c.alone.result ≡ weight c.in-Some-index.holder.access =
-    c.alone.ensures ∙ ap (λ (h : Holder). weight h.access) c.holder.view_is in
     rw (c.clear.ensures.items) (noted_none c.self.inside.places.items c.self.inside.noted c.remove.new.self c.self.inside.count
     c.self.inside.alone c.args.activation c.in-Some.place c.in-Some-index.holder (c.self.invariant f)
     (sym c.in-Some.is ∙ c.get.ensures) holds
-    c.remove.ensures.here c.remove.ensures.others _ _ refl (ap (λ (w : _). c.self.inside.alone - w) heavy) c.if-self-eq0.true)
+    c.remove.ensures.here c.remove.ensures.others _ _ refl (ap (λ (w : _). c.self.inside.alone - w) c.alone.ensures) c.if-self-eq0.true)
 
 pub invariant_of-self-else-self-eq0 : goal.invariant_of-self-else-self-eq0
 invariant_of-self-else-self-eq0 c = λ f.
@@ -86,12 +81,10 @@ invariant_of-self-else-self-eq0 c = λ f.
     let read : get_or c.self.inside.places.items c.in-Some.place (Some c.in-Some-index.holder) ≡ Some c.in-Some-index.holder =
     search rules in
     let holds = sym (same_place c.args.activation c.self.inside.places.items c.in-Some.place (Some c.in-Some-index.holder) so) ∙ read in
-    let heavy : c.alone.result ≡ weight c.in-Some-index.holder.access =
-    c.alone.ensures ∙ ap (λ (h : Holder). weight h.access) c.holder.view_is in
     noted_less c.self.inside.places.items c.self.inside.noted c.remove.new.self c.self.inside.count
     c.self.inside.alone c.args.activation c.in-Some.place c.in-Some-index.holder (c.self.invariant f)
     (sym c.in-Some.is ∙ c.get.ensures) holds
-    c.remove.ensures.here c.remove.ensures.others _ _ refl (ap (λ (w : _). c.self.inside.alone - w) heavy)
+    c.remove.ensures.here c.remove.ensures.others _ _ refl (ap (λ (w : _). c.self.inside.alone - w) c.alone.ensures)
 
 pub returns-then-self-eq0 : goal.returns-then-self-eq0
 returns-then-self-eq0 c =

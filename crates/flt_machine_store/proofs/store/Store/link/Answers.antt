@@ -1,7 +1,8 @@
 use Rattle.std.proofs.Common.{◌≡◌, ℕ, Bool, true, false, List, is_some, get_or, ap, sym, subst, refl, ◌∙◌}
 use Rattle.flt_ctx.specs.Contexts as ctx
 use Rattle.flt_model.specs.World as world
-use Rattle.flt_model.specs.World.{Store, Link}
+use Rattle.flt_model.specs.declared.parts.Link.{Link}
+use Rattle.flt_model.specs.World.{Store}
 use Rattle.flt_machine_store.proofs.Carried.{with_contexts, after_link, link_made, closed_same, link_over_carried, cannot_there, open_there}
 use Rattle.flt_machine_store.proofs.Reading.{linked_there}
 use Rattle.flt_machine_store.specs.Changes.{after_change, CanBeLinked}

@@ -1,6 +1,7 @@
 use Rattle.std.proofs.Common.{ap, sym, ◌∙◌}
 use Rattle.flt_model.specs.World as spec
-use Rattle.flt_model.specs.World.{Store, Link}
+use Rattle.flt_model.specs.declared.parts.Link.{Link}
+use Rattle.flt_model.specs.World.{Store}
 use Rattle.flt_machine_store.proofs.Reading.{linked_there}
 use Rattle.flt_machine_store.specs.contracts.store.Store.{the_view}
 use Rattle.flt_machine_store.proofs.store.Store.linked_at.Goals as goal

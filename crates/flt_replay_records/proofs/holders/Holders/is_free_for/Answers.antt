@@ -1,4 +1,4 @@
-use Rattle.std.proofs.Common.{◌≡◌, sym, ◌∙◌}
+use Rattle.std.proofs.Common.{◌∙◌}
 use Rattle.flt_rules.specs.declared.held.Access.TheVariants.{Exclusive, Shared}
 use Rattle.flt_replay_records.specs.Slots.{left}
 use Rattle.flt_replay_records.proofs.Slots.{walked_free, held_alone, not_held_alone, held_by_none}

@@ -1,6 +1,5 @@
-use Rattle.std.proofs.Common.{◌≡◌, Some, None, get_or, sym, ap, refl, ◌∙◌}
+use Rattle.std.proofs.Common.{◌≡◌, Some, None, get_or, sym, refl, ◌∙◌}
 use Rattle.std.proofs.lemmas.List.{get_or_past}
-use Rattle.flt_model.specs.World.{Entry}
 use Rattle.flt_replay_records.proofs.Queues.Tickets.{none_of, not_missing, taken_of, tickets_without}
 use Rattle.flt_replay_records.proofs.queue.Queue.take_entry.Goals as goal
 
@@ -9,10 +8,10 @@ invariant_of-self-2 c =
     let es = c.self.inside.entries.items in
     let front = c.self.inside.front in
     let ticket = c.in-Some.ticket in
-    let entry : Entry = record { visit = c.entry.inside.visit; context = c.entry.inside.context } in
+    let entry = c.in_ok-entry.entry in
     let at = c.in_ok-place.ensures.item.3 in
     let taken = c.in_ok-entry.ensures in
-    let there : get_or es ticket None ≡ Some entry = sym (at.1 None) ∙ sym taken.value ∙ ap Some (sym c.entry.view_is) in
+    let there : get_or es ticket None ≡ Some entry = sym (at.1 None) ∙ sym taken.value in
     let within = rw (c.as_slice-2.ensures.value, taken.after) at c.next_left-self-inside.ensures.within in
     let rest = rw (c.as_slice-2.ensures.value, taken.after) at c.next_left-self-inside.ensures.taken in
     let first = rw (c.as_slice-2.ensures.value, taken.after) at c.next_left-self-inside.ensures.first in

@@ -1,5 +1,4 @@
-use Rattle.std.proofs.Common.{◌≡◌, Some, None, get_or, sym, ap, refl, ◌∙◌}
-use Rattle.flt_model.specs.World.{Entry}
+use Rattle.std.proofs.Common.{◌≡◌, Some, None, get_or, sym, refl, ◌∙◌}
 use Rattle.flt_replay_records.proofs.Queues.Tickets.{taken_front, tickets_without}
 use Rattle.flt_replay_records.proofs.queue.Queue.take_first.Goals as goal
 
@@ -7,10 +6,10 @@ pub invariant_of-self-2 : goal.invariant_of-self-2
 invariant_of-self-2 c =
     let es = c.self.inside.entries.items in
     let front = c.self.inside.front in
-    let entry : Entry = record { visit = c.entry.inside.visit; context = c.entry.inside.context } in
+    let entry = c.in_ok-entry.entry in
     let at = c.in_ok-place.ensures.item.3 in
     let taken = c.in_ok-entry.ensures in
-    let there : get_or es front None ≡ Some entry = sym (at.1 None) ∙ sym taken.value ∙ ap Some (sym c.entry.view_is) in
+    let there : get_or es front None ≡ Some entry = sym (at.1 None) ∙ sym taken.value in
     let within = rw (c.as_slice.ensures.value, taken.after) at c.next_left-self-inside.ensures.within in
     let rest = rw (c.as_slice.ensures.value, taken.after) at c.next_left-self-inside.ensures.taken in
     let first = rw (c.as_slice.ensures.value, taken.after) at c.next_left-self-inside.ensures.first in

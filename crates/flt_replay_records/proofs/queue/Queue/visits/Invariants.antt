@@ -1,5 +1,5 @@
 use Rattle.std.proofs.Common.{◌≡◌, map, take}
-use Rattle.flt_model.specs.World.{Entry}
+use Rattle.flt_model.specs.declared.parts.Entry.{Entry}
 use Rattle.flt_replay_records.specs.Tickets.{present}
 use Rattle.flt_replay_records.proofs.queue.Queue.visits.Given as goal
 

@@ -1,5 +1,4 @@
-use Rattle.std.proofs.Common.{Some, None, sym, ap, ◌∙◌}
-use Rattle.flt_model.specs.World.{Item}
+use Rattle.std.proofs.Common.{None, sym}
 use Rattle.flt_replay_records.proofs.Queues.CountWaiting.{item_counted, item_taken}
 use Rattle.flt_replay_records.proofs.waiting_list.Waiting.take_item.Goals as goal
 
@@ -7,13 +6,8 @@ pub invariant_of-self-in-Some : goal.invariant_of-self-in-Some
 invariant_of-self-in-Some c =
     let at = c.in_ok-place.ensures.item.3 in
     let taken = c.in_ok-item.ensures in
-    let item : Item = record {
-      filter = c.item.inside.filter;
-      routine = c.item.inside.routine;
-      visit = c.item.inside.visit;
-      context = c.item.inside.context;
-    } in
-    let is = sym taken.value ∙ ap Some (sym c.item.view_is) in
+    let item = c.in_ok-item.item in
+    let is = sym taken.value in
     let counted = item_counted c.self.inside.queues.items c.self.inside.items.items c.self.inside.counts c.take-in-Some.new.self
     c.self.invariant c.args.number at.0 item c.in_ok-place.place.now (at.1 None) is c.in-Some.visit c.in-Some.is in
     rw taken.after

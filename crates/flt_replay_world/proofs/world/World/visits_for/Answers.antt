@@ -2,7 +2,8 @@ use Rattle.std.proofs.Common.{◌≡◌, ℕ, ◌==◌, nat_eq, map, ap, ◌∙�
 use Rattle.std.specs.Prelude.{filter}
 use Rattle.std.specs.List.{list_any}
 use Rattle.std.proofs.lemmas.Result.{IfOk-weaker}
-use Rattle.flt_model.specs.World.{World, Entry, visit_at, queue_at}
+use Rattle.flt_model.specs.declared.parts.Entry.{Entry}
+use Rattle.flt_model.specs.World.{World, visit_at, queue_at}
 use Rattle.flt_replay_records.specs.Unsettled.{is_visit_of}
 use Rattle.flt_replay_world.proofs.EntryVisits.{among_own, of_operation}
 use Rattle.flt_replay_world.proofs.world.World.visits_for.Goals as goal
