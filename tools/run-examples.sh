@@ -95,8 +95,11 @@ has_no_journal() {
         differs "explain --journal $1: status $status, or a journal"
 }
 
-# What arrives in each script of the sweep.
+# What arrives in each script of the sweep, with an operation of each kind that LANGUAGE has.
 arrivals=('create irp 0' 'read irp 0' 'read fast 0' 'write irp 0' 'write fast 1' 'read irp 1' 'read irp 0' 'cleanup irp 0')
+for operation in $(sed -n 's/^| `\([a-z_]*\)` | `IRP_MJ_[A-Z_]*` | .* |$/\1/p' "$top/docs/LANGUAGE.md"); do
+    [[ " ${arrivals[*]}" == *" $operation "* ]] || arrivals+=("$operation irp 0")
+done
 
 # script_with PLACE LINE..: all arrivals, with these lines before the one of this place (from 0), or behind the last.
 script_with() {

@@ -2,11 +2,11 @@
 //
 //     simulation SEED OPERATIONS JOURNAL
 //
-// OPERATIONS operations arrive at the filters of filters.h, from the top of the stack to its end. Threads make the machine's moves and run
-// the callbacks, one at a time: before each step that others may see, the turn goes to another thread by chance. All chances come from
-// SEED, so a run can be repeated. Where a filter does what the manager can tell is wrong, it says so on the standard error and ends with
-// status 1: a call other than the one of the text's statement, a call above its level, a context that was freed or is of the other kind, an
-// operation that is settled twice.
+// OPERATIONS operations, of the kinds of operations.h, arrive at the filters of filters.h, from the top of the stack to its end. Threads
+// make the machine's moves and run the callbacks, one at a time: before each step that others may see, the turn goes to another thread by
+// chance. All chances come from SEED, so a run can be repeated. Where a filter does what the manager can tell is wrong, it says so on the
+// standard error and ends with status 1: a call other than the one of the text's statement, a call above its level, a context that was
+// freed or is of the other kind, an operation that is settled twice.
 
 #include <pthread.h>
 #include <stdarg.h>
@@ -17,11 +17,18 @@
 #include "trace.h"
 
 enum { THREADS = 4, FILES = 3, MAX_FILTERS = 16, MAX_OPERATIONS = 256, MAX_WAITS = 3000, MAX_IDLE = 6000 };
-enum operation_kind { CREATE, READ, WRITE, CLEANUP, KINDS };
 enum visit_kind { PRE, POST, DRAIN };
 
-static const char *const NAMES[KINDS] = {"create", "read", "write", "cleanup"};
-static const UCHAR MAJORS[KINDS] = {IRP_MJ_CREATE, IRP_MJ_READ, IRP_MJ_WRITE, IRP_MJ_CLEANUP};
+// The kinds of operations: how a journal names each, its major function, and whether it also comes as fast I/O.
+static const struct {
+    const char *name;
+    UCHAR major;
+    int may_be_fast;
+} KINDS[] = {
+#define OPERATION(name, major, may_be_fast) {#name, major, may_be_fast},
+#include "operations.h"
+};
+enum { KIND_COUNT = sizeof KINDS / sizeof KINDS[0] };
 
 // A context; what the filter sees of it comes after it.
 struct context {
@@ -58,7 +65,7 @@ struct _FLT_FILTER {
 
 struct operation {
     int serial;
-    enum operation_kind kind;
+    unsigned kind; // its place in KINDS
     int is_fast;
     FILE_OBJECT file;
     unsigned at; // the filter that it comes to next on its way down
@@ -275,10 +282,10 @@ static void at_most(int level) {
 
 // ---- operations and their visits
 
-static const FLT_OPERATION_REGISTRATION *row_of(struct _FLT_FILTER *filter, enum operation_kind kind) {
+static const FLT_OPERATION_REGISTRATION *row_of(struct _FLT_FILTER *filter, unsigned kind) {
     const FLT_OPERATION_REGISTRATION *row = filter->registration->OperationRegistration;
     for (; row->MajorFunction != IRP_MJ_OPERATION_END; row++) {
-        if (row->MajorFunction == MAJORS[kind]) {
+        if (row->MajorFunction == KINDS[kind].major) {
             return row;
         }
     }
@@ -296,7 +303,7 @@ static struct visit *visit_of(struct operation *operation, struct _FLT_FILTER *f
     visit->kind = kind;
     visit->data.Iopb = &visit->parameters;
     visit->data.Flags = operation->is_fast ? FLTFL_CALLBACK_DATA_FAST_IO_OPERATION : FLTFL_CALLBACK_DATA_IRP_OPERATION;
-    visit->parameters.MajorFunction = MAJORS[operation->kind];
+    visit->parameters.MajorFunction = KINDS[operation->kind].major;
     visit->parameters.TargetFileObject = &operation->file;
     visit->parameters.TargetInstance = &filter->instance;
     return visit;
@@ -382,7 +389,7 @@ static int moves_down(struct operation *operation) {
 
 // Runs the post callback of a frame that was taken off.
 static void run_post(struct operation *operation, struct _FLT_FILTER *filter, PVOID context, enum visit_kind kind) {
-    begin(filter, operation->kind == CREATE ? PASSIVE_LEVEL : (int)chance(3));
+    begin(filter, KINDS[operation->kind].major == IRP_MJ_CREATE ? PASSIVE_LEVEL : (int)chance(3));
     struct visit *visit = visit_of(operation, filter, kind);
     FLT_RELATED_OBJECTS objects = objects_of(visit);
     FLT_POST_OPERATION_FLAGS flags = kind == DRAIN ? FLTFL_POST_OPERATION_DRAINING : 0;
@@ -856,10 +863,10 @@ VOID FltUnregisterFilter(PFLT_FILTER filter) {
 // ---- other moves
 
 // Most operations are of a kind that some filter has callbacks for.
-static enum operation_kind some_kind(void) {
-    enum operation_kind kinds[KINDS], kind;
+static unsigned some_kind(void) {
+    unsigned kinds[KIND_COUNT], kind;
     int count = 0;
-    for (kind = 0; kind < KINDS; kind++) {
+    for (kind = 0; kind < KIND_COUNT; kind++) {
         for (unsigned filter = 0; filter < filter_count; filter++) {
             if (row_of(&filters[filter], kind)) {
                 kinds[count++] = kind;
@@ -867,7 +874,7 @@ static enum operation_kind some_kind(void) {
             }
         }
     }
-    return count && chance(8) ? kinds[chance(count)] : chance(KINDS);
+    return count && chance(8) ? kinds[chance(count)] : chance(KIND_COUNT);
 }
 
 static int arrives(void) {
@@ -878,9 +885,9 @@ static int arrives(void) {
     unsigned file = chance(FILES);
     operation->serial = operation_count++;
     operation->kind = some_kind();
-    operation->is_fast = (operation->kind == READ || operation->kind == WRITE) && chance(4) == 0;
+    operation->is_fast = KINDS[operation->kind].may_be_fast && chance(4) == 0;
     operation->file.FsContext = (PVOID)(ULONG_PTR)file;
-    enter("arrive %s %s %u", NAMES[operation->kind], operation->is_fast ? "fast" : "irp", file);
+    enter("arrive %s %s %u", KINDS[operation->kind].name, operation->is_fast ? "fast" : "irp", file);
     return 1;
 }
 

@@ -43,7 +43,7 @@ use Rattle.flt_abs.specs.declared.step.Successors.{Successors}
 -- ---- one variable
 
 -- what is so of a variable is in its set
-have_at : (xs : List StatusSet) (ts : List Status) (i : ℕ) → have_statuses xs ts ≡ true →
+pub have_at : (xs : List StatusSet) (ts : List Status) (i : ℕ) → have_statuses xs ts ≡ true →
     has_status (slice_index_or xs i null_alone) (slice_index_or ts i Null) ≡ true
 have_at [] [] i h = refl
 have_at [] (t ∷ ts) i h = cc

@@ -3,9 +3,9 @@ use Rattle.std.proofs.Common.{◌≡◌, Bool, true, false, List, [], ◌∷◌,
 use Rattle.std.specs.Prelude.{not, ◌&&◌, ◌||◌}
 use Rattle.std.specs.List.{list_all}
 use Rattle.std.proofs.lemmas.Bool.{and_parts, and_from}
+use Rattle.flt_rules.proofs.Operations.{of_all, of_each, same_is, same_itself}
 use Rattle.flt_rules.specs.Place.{same_operation}
 use Rattle.flt_rules.specs.declared.place.Operation.{Operation}
-use Rattle.flt_rules.specs.declared.place.Operation.TheVariants.{Create, Read, Write, Cleanup}
 use Rattle.flt_tree.specs.Filter.{head_place}
 use Rattle.flt_tree.specs.Registered as registered
 use Rattle.flt_tree.specs.declared.filter.Callback.{Callback}
@@ -38,30 +38,6 @@ posts_agree all (c ∷ cs) (g ∷ gs) kind h =
 
 -- ---- pairs
 
-same_itself : (kind : Operation) → same_operation kind kind ≡ true
-same_itself Create = refl
-same_itself Read = refl
-same_itself Write = refl
-same_itself Cleanup = refl
-
-one_operation : (a b : Operation) → same_operation a b ≡ true → a ≡ b
-one_operation Create Create e = refl
-one_operation Create Read e = cc
-one_operation Create Write e = cc
-one_operation Create Cleanup e = cc
-one_operation Read Create e = cc
-one_operation Read Read e = refl
-one_operation Read Write e = cc
-one_operation Read Cleanup e = cc
-one_operation Write Create e = cc
-one_operation Write Read e = cc
-one_operation Write Write e = refl
-one_operation Write Cleanup e = cc
-one_operation Cleanup Create e = cc
-one_operation Cleanup Read e = cc
-one_operation Cleanup Write e = cc
-one_operation Cleanup Cleanup e = refl
-
 same_answer : (a b : Bool) → (a ≡ true → b ≡ true) → (b ≡ true → a ≡ true) → a ≡ b
 same_answer true b f g = sym (f refl)
 same_answer false true f g = g refl
@@ -87,7 +63,7 @@ module _ (all : List Callback) (whole : List CallbackGraph) where
   -- a pre callback that is paired has a post callback
   pair_has_post : (kind : Operation) (h : Head) → is_paired_at whole (head_place h) ≡ true → registered.is_pre_of kind h ≡ true →
       has_post whole kind ≡ true
-  pair_has_post kind (head.Pre own) e h = subst (λ k. has_post whole k ≡ true) (one_operation own kind h) e
+  pair_has_post kind (head.Pre own) e h = subst (λ k. has_post whole k ≡ true) (same_is own kind h) e
   pair_has_post kind (head.Post own) e h = cc
   pair_has_post kind head.Canceled e h = cc
   pair_has_post kind (head.DeferredPre name) e h = cc
@@ -131,23 +107,6 @@ module _ (all : List Callback) (whole : List CallbackGraph) where
       let others = each_paired cs gs h.1 (λ kind e. f kind (or_second (registered.is_pre_of kind c.head) (registered.has_pre cs kind) e)) in
       and_from _ _ (ap (is_paired_at whole) h.0.place ∙ one) others
 
-all_four : (cs : List Callback) → registered.are_paired cs ≡ true → (kind : Operation) → registered.is_paired cs kind ≡ true
-all_four cs e kind =
-    let one = and_parts (registered.is_paired cs Create)
-    (registered.is_paired cs Read && (registered.is_paired cs Write && (registered.is_paired cs Cleanup && true))) e in
-    let two = and_parts (registered.is_paired cs Read) (registered.is_paired cs Write && (registered.is_paired cs Cleanup && true)) one.1 in
-    let three = and_parts (registered.is_paired cs Write) (registered.is_paired cs Cleanup && true) two.1 in
-    let four = and_parts (registered.is_paired cs Cleanup) true three.1 in
-    of_kind kind one.0 two.0 three.0 four.0
-  where
-    of_kind : (kind : Operation) → registered.is_paired cs Create ≡ true → registered.is_paired cs Read ≡ true →
-        registered.is_paired cs Write ≡ true →
-        registered.is_paired cs Cleanup ≡ true → registered.is_paired cs kind ≡ true
-    of_kind Create a b c d = a
-    of_kind Read a b c d = b
-    of_kind Write a b c d = c
-    of_kind Cleanup a b c d = d
-
 -- the graphs are paired where the callbacks are
 pub pairs_agree : (cs : List Callback) (gs : List CallbackGraph) → AreGraphsOf cs cs gs → are_paired gs ≡ registered.are_paired cs
 pairs_agree cs gs h = same_answer (are_paired gs) (registered.are_paired cs) down up
@@ -160,8 +119,8 @@ pairs_agree cs gs h = same_answer (are_paired gs) (registered.are_paired cs) dow
         (λ there. sym (post kind) ∙ pre_has_post cs gs kind cs gs h e there)
 
     down : are_paired gs ≡ true → registered.are_paired cs ≡ true
-    down e = and_from _ _ (one e Create) (and_from _ _ (one e Read) (and_from _ _ (one e Write) (and_from _ _ (one e Cleanup) refl)))
+    down e = of_all (registered.is_paired cs) (one e)
 
     up : registered.are_paired cs ≡ true → are_paired gs ≡ true
     up e = each_paired cs gs cs gs h (λ kind there. post kind
-        ∙ implied (registered.has_pre cs kind) (registered.has_post cs kind) (all_four cs e kind) there)
+        ∙ implied (registered.has_pre cs kind) (registered.has_post cs kind) (of_each (registered.is_paired cs) e kind) there)

@@ -1,7 +1,8 @@
 -- The states in which callbacks are entered. Source: the driver kit's pages on pre- and postoperation callback routines,
 -- on CompleteCanceledIo and on work item routines.
-use Rattle.std.specs.Prelude.{List, [], ◌∷◌}
-use Rattle.flt_rules.specs.declared.place.Operation.TheVariants.{Read, Write}
+use Rattle.std.specs.Prelude.{if◌then◌else◌, List, [], ◌∷◌}
+use Rattle.flt_rules.specs.Place.{is_always_irp}
+use Rattle.flt_rules.specs.declared.place.Operation.{Operation}
 use Rattle.flt_rules.specs.declared.place.Place.{Place}
 use Rattle.flt_rules.specs.declared.place.Place.TheVariants.{Pre, Post, Generic}
 use Rattle.flt_abs.specs.Sets.{StatusSet, ModeSet, DrainingSet, null_alone, held_alone, null_or_held, irp_alone}
@@ -25,12 +26,14 @@ entry_data _ = held_alone
 abbrev pub entry_operations : Place → List StatusSet
 entry_operations place = null_alone ∷ null_alone ∷ null_alone ∷ null_alone ∷ entry_data place ∷ []
 
--- reads and writes may be fast I/O
+-- the modes in which an operation comes
+abbrev pub operation_modes : Operation → ModeSet
+operation_modes kind = if is_always_irp kind then irp_alone else either_mode irp_alone fast_alone
+
+-- a callback of an operation is entered in each mode in which that comes, others for an I/O request packet
 abbrev pub entry_modes : Place → ModeSet
-entry_modes (Pre Read) = either_mode irp_alone fast_alone
-entry_modes (Pre Write) = either_mode irp_alone fast_alone
-entry_modes (Post Read) = either_mode irp_alone fast_alone
-entry_modes (Post Write) = either_mode irp_alone fast_alone
+entry_modes (Pre kind) = operation_modes kind
+entry_modes (Post kind) = operation_modes kind
 entry_modes _ = irp_alone
 
 -- a post callback may be called for draining

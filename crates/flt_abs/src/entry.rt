@@ -34,13 +34,23 @@ fn entry_operations(place: Place) -> [Statuses; OPERATIONS]
     [null, null, null, null, given]
 }
 
-/// Reads and writes may be fast I/O.
+/// The modes in which an operation comes.
+fn operation_modes(kind: Operation) -> Modes
+    ensures { result ≡ spec.operation_modes kind }
+{
+    if kind.is_always_irp() {
+        Modes::irp()
+    } else {
+        Modes::irp().union(Modes::fast())
+    }
+}
+
+/// A callback of an operation is entered in each mode in which that comes.
 fn entry_modes(place: Place) -> Modes
     ensures { result ≡ spec.entry_modes place }
 {
     match place {
-        Place::Pre(Operation::Read | Operation::Write)
-        | Place::Post(Operation::Read | Operation::Write) => Modes::irp().union(Modes::fast()),
+        Place::Pre(kind) | Place::Post(kind) => operation_modes(kind),
         _ => Modes::irp(),
     }
 }

@@ -23,7 +23,7 @@ pub use sets::{Draining, Modes, Statuses};
 /// No call answers it: the definitions of the rules speak of it.
 pub use setting::{Setting, graphs_are_registered_alike};
 pub use state::{
-    Abs, CONTEXTS, LocksDiffer, OPERATIONS, is_partial_order, join, joins_are_least, leq,
+    Abs, CONTEXTS, LocksDiffer, OPERATIONS, is_partial_order, join, joins_are_least, leq, unite,
 };
 pub use step::{
     Successor, Successors, transfer, transfer_into, transfer_is_monotone,

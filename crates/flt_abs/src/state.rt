@@ -167,7 +167,8 @@ pub fn leq(a: &Abs, b: &Abs) -> bool
     is_below(a, b)
 }
 
-fn unite(into: &mut [Statuses], other: &[Statuses])
+/// Adds to each set the statuses of the other list's set at its place.
+pub fn unite(into: &mut [Statuses], other: &[Statuses])
     requires { length into.old ≡ length other.now }
     ensures { into.new ≡ spec.either_all into.old other.now }
 {

@@ -1,7 +1,8 @@
 -- The names that annotations and C have in common. The driver kit's routines and statuses, as far as the language knows them.
-use Rattle.std.specs.Prelude.{ℕ, ◌+◌, Bool, List, [], ◌∷◌, Option, Some, None, codes, if◌then◌else◌, nat_eq}
+use Rattle.std.specs.Prelude.{ℕ, ◌+◌, Bool, List, [], ◌∷◌, Option, Some, None, codes, if◌then◌else◌, nat_eq, map}
 use Rattle.std.specs.List.{starts_with}
 use Rattle.std.specs.Str.{bytes_eq}
+use Rattle.flt_rules.specs.Place.{all_operations, major_name, operation_name}
 
 -- the calls
 unfoldable pub calls : List (List ℕ)
@@ -29,13 +30,11 @@ c_statuses =
 
 -- the operations whose callbacks the language has
 unfoldable pub operations : List (List ℕ)
-operations =
-    codes "create" ∷ codes "read" ∷ codes "write" ∷ codes "cleanup" ∷ []
+operations = map operation_name all_operations
 
 -- the same, in the same order, as C has it
 unfoldable pub c_operations : List (List ℕ)
-c_operations =
-    codes "IRP_MJ_CREATE" ∷ codes "IRP_MJ_READ" ∷ codes "IRP_MJ_WRITE" ∷ codes "IRP_MJ_CLEANUP" ∷ []
+c_operations = map major_name all_operations
 
 -- the calls that take and release locks
 unfoldable pub lock_calls : List (List ℕ)

@@ -5,7 +5,8 @@ ghost use Rattle.flt_c_drift.specs.Drifts as said;
 ghost use Rattle.flt_c_drift.specs.Flags as spec;
 
 use crate::mark::{Mark, MarkKind};
-use crate::names::{CALLS, OPERATIONS, STATUSES};
+use crate::names::{CALLS, STATUSES};
+use flt_rules::Operation;
 use std::alloc::{AllocError, Global};
 
 /// Fewer marks than these are searched each time, without flags.
@@ -123,7 +124,7 @@ fn count(question: Question) -> usize
     match question {
         Question::Called | Question::Named => CALLS.len(),
         Question::Answered => STATUSES.len(),
-        _ => OPERATIONS.len(),
+        _ => Operation::all().len(),
     }
 }
 

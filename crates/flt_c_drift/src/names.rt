@@ -3,6 +3,8 @@
 ghost use Rattle.std.specs.Prelude.{◌≡◌, map};
 ghost use Rattle.flt_c_drift.specs.Names as spec;
 
+use flt_rules::Operation;
+
 pub(crate) const CALLS: [&[u8]; 23] = [
     b"FltAllocateContext",
     b"FltGetStreamContext",
@@ -49,15 +51,6 @@ const C_STATUSES: [&[u8]; 8] = [
     b"FLT_PREOP_DISALLOW_FASTIO",
     b"FLT_POSTOP_FINISHED_PROCESSING",
     b"FLT_POSTOP_MORE_PROCESSING_REQUIRED",
-];
-
-pub(crate) const OPERATIONS: [&[u8]; 4] = [b"create", b"read", b"write", b"cleanup"];
-
-const C_OPERATIONS: [&[u8]; 4] = [
-    b"IRP_MJ_CREATE",
-    b"IRP_MJ_READ",
-    b"IRP_MJ_WRITE",
-    b"IRP_MJ_CLEANUP",
 ];
 
 const LOCK_CALLS: [&[u8]; 7] = [
@@ -120,7 +113,7 @@ pub(crate) fn c_status_of(word: &[u8]) -> Option<usize>
 pub(crate) fn operation_of(word: &[u8]) -> Option<usize>
     ensures { result ≡ spec.operation_of word.now }
 {
-    place_among(OPERATIONS.as_slice(), word)
+    place_among(Operation::names(), word)
 }
 
 /// The operation of a word of C, by the same place.
@@ -128,7 +121,7 @@ pub(crate) fn operation_of(word: &[u8]) -> Option<usize>
 pub(crate) fn c_operation_of(word: &[u8]) -> Option<usize>
     ensures { result ≡ spec.c_operation_of word.now }
 {
-    place_among(C_OPERATIONS.as_slice(), word)
+    place_among(Operation::major_names(), word)
 }
 
 /// The call of a word, by its place among those that take and release locks.

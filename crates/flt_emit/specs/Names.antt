@@ -1,11 +1,11 @@
 -- How variables, operations and statuses are called in C. Source: fltKernel.h and wdm.h of the driver kit.
-use Rattle.std.specs.Prelude.{codes, Option, Some, None}
+use Rattle.std.specs.Prelude.{codes, drop, Option, Some, None}
+use Rattle.flt_rules.specs.Place as rules
 use Rattle.flt_rules.specs.declared.call.Anchor.{Anchor}
 use Rattle.flt_rules.specs.declared.call.Anchor.TheVariants.{Stream, Instance}
 use Rattle.flt_rules.specs.declared.call.Existing.{Existing}
 use Rattle.flt_rules.specs.declared.call.Existing.TheVariants.{Keep, Replace}
 use Rattle.flt_rules.specs.declared.place.Operation.{Operation}
-use Rattle.flt_rules.specs.declared.place.Operation.TheVariants as operating
 use Rattle.flt_rules.specs.declared.place.Place.{Place}
 use Rattle.flt_rules.specs.declared.place.Place.TheVariants as place
 use Rattle.flt_rules.specs.declared.status.FinalStatus.{FinalStatus}
@@ -114,14 +114,8 @@ status_name statuses.MoreProcessingRequired = codes "FLT_POSTOP_MORE_PROCESSING_
 
 -- the major function of an operation
 abbrev pub major_name : Operation → Text
-major_name operating.Create = codes "CREATE"
-major_name operating.Read = codes "READ"
-major_name operating.Write = codes "WRITE"
-major_name operating.Cleanup = codes "CLEANUP"
+major_name operation = drop 7 (rules.major_name operation)
 
--- how the callbacks of an operation end
+-- how the names of an operation's callbacks end
 abbrev pub operation_word : Operation → Text
-operation_word operating.Create = codes "Create"
-operation_word operating.Read = codes "Read"
-operation_word operating.Write = codes "Write"
-operation_word operating.Cleanup = codes "Cleanup"
+operation_word = rules.operation_title

@@ -135,26 +135,17 @@ pub(crate) fn status_name(status: Status) -> &'static [u8]
     }
 }
 
-/// The major function of an operation.
+/// The major function of an operation, without `IRP_MJ_`.
+#[tactic(auto, using(crate::proofs::MajorNames::long))]
 pub(crate) fn major_name(operation: Operation) -> &'static [u8]
     ensures { result.now ≡ spec.major_name operation }
 {
-    match operation {
-        Operation::Create => b"CREATE",
-        Operation::Read => b"READ",
-        Operation::Write => b"WRITE",
-        Operation::Cleanup => b"CLEANUP",
-    }
+    &operation.major_name().as_bytes()[7..]
 }
 
 /// The ends of the names of an operation's callbacks.
 pub(crate) fn operation_word(operation: Operation) -> &'static [u8]
     ensures { result.now ≡ spec.operation_word operation }
 {
-    match operation {
-        Operation::Create => b"Create",
-        Operation::Read => b"Read",
-        Operation::Write => b"Write",
-        Operation::Cleanup => b"Cleanup",
-    }
+    operation.title().as_bytes()
 }

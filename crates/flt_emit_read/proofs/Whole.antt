@@ -3,13 +3,14 @@ use Rattle.std.proofs.Common.{◌≡◌, ◌<◌, ◌≤◌, ◌+◌, ◌-◌, �
 use Rattle.std.proofs.Common.{◌++◌, length, map, refl, sym, ap, arith, ◌∙◌, append_assoc, append-nil}
 use Rattle.std.proofs.lemmas.Bool.{and_parts}
 use Rattle.std.proofs.lemmas.Slice.Eq.{bytes_eq-Decides}
-use Rattle.std.specs.Prelude.{flat_map, Option, Some, None, is_some, option_map, codes, decimal, ◌||◌}
+use Rattle.std.specs.Prelude.{flat_map, ◌==◌, ◌&&◌, not, if◌then◌else◌, Option, Some, None, is_some, option_map, codes, decimal, ◌||◌}
 use Rattle.std.specs.Char.{is_ascii_digit}
 use Rattle.std.specs.List.{list_all, list_any}
+use Rattle.flt_rules.proofs.Operations.{of_each, same_is}
+use Rattle.flt_rules.specs.Place.{all_operations, same_operation}
 use Rattle.flt_rules.specs.declared.call.LockKind.{LockKind}
 use Rattle.flt_rules.specs.declared.call.LockKind.TheVariants.{Spin, Fast, Push}
 use Rattle.flt_rules.specs.declared.place.Operation.{Operation}
-use Rattle.flt_rules.specs.declared.place.Operation.TheVariants as operating
 use Rattle.flt_rules.specs.declared.place.Place.{Place}
 use Rattle.flt_rules.specs.declared.place.Place.TheVariants as place
 use Rattle.flt_tree.specs.Declarations.{same_event}
@@ -40,10 +41,10 @@ use Rattle.flt_emit.specs.Uses.{always_returns}
 use Rattle.flt_emit.specs.declared.scope.Allocation.{Allocation}
 use Rattle.flt_emit_read.specs.AsRead.{statement_as_read, callback_as_read, as_read}
 use Rattle.flt_emit_read.specs.Blocks.{reading, past_end, step, body_at}
-use Rattle.flt_emit_read.specs.Front.{after}
+use Rattle.flt_emit_read.specs.Front.{after, one_of}
 use Rattle.flt_emit_read.specs.Laws.{ReadsBack}
 use Rattle.flt_print.specs.Reprinting.{nowhere}
-use Rattle.flt_emit_read.specs.Lines.{line_at, line_start, named_line, number_name_at, context_at, removed_at, ask_forms}
+use Rattle.flt_emit_read.specs.Lines.{line_at, line_start, named_line, number_name_at, context_at, removed_at, ask_forms, table}
 use Rattle.flt_emit_read.specs.Lines.{plain_line, plain_forms, lock_line, lock_forms, settle_line, settle_forms}
 use Rattle.flt_emit_read.specs.Sources.{lock_at, locks_at, queue_at, operation_kind_at, event_at, routine_at, head_at, prototype_at}
 use Rattle.flt_emit_read.specs.Sources.{heads_at, hooked, callback_at, callbacks_at, queue_of, whole_filter, title_at, read_back}
@@ -190,12 +191,44 @@ callbacks_read locks queue instances number (c ∷ cs) names ok r =
 
 -- ---- prototypes
 
+-- two texts differ at a place that both have
+abbrev clash : Text → Text → Bool
+clash [] b = false
+clash (x ∷ a) [] = false
+clash (x ∷ a) (y ∷ b) = not (y == x) || clash a b
+
+-- a text that clashes with what comes isn't there
+not_after : (a b r : Text) → clash a b ≡ true → after a (b ++ r) ≡ None
+not_after [] b r h = absurd (cc)
+not_after (x ∷ a) [] r h = absurd (cc)
+not_after (x ∷ a) (y ∷ b) r h = by (y == x) h (λ k. not_after a b r k)
+  where
+    by : (same : Bool) → (not same || clash a b) ≡ true → (clash a b ≡ true → after a (b ++ r) ≡ None) →
+        (if same then after a (b ++ r) else None) ≡ None
+    by true h more = more h
+    by false h more = refl
+
+-- an operation is among some, and the texts of those before it clash with its own
+abbrev is_first_of : List Operation → Operation → Bool
+is_first_of [] op = false
+is_first_of (x ∷ xs) op = same_operation x op || (clash (operation_word x) (operation_word op) && is_first_of xs op)
+
+reads_first : (xs : List Operation) (op : Operation) (r : Text) → is_first_of xs op ≡ true →
+    one_of (table operation_word xs) (operation_word op ++ r) ≡ Some (op, r)
+reads_first [] op r h = absurd (cc)
+reads_first (x ∷ xs) op r h = by (same_operation x op) refl h (λ k. reads_first xs op r k)
+  where
+    by : (same : Bool) → same_operation x op ≡ same → (same || (clash (operation_word x) (operation_word op) && is_first_of xs op)) ≡ true →
+        (is_first_of xs op ≡ true → one_of (table operation_word xs) (operation_word op ++ r) ≡ Some (op, r)) →
+        one_of (table operation_word (x ∷ xs)) (operation_word op ++ r) ≡ Some (op, r)
+    by true e h more = rw (same_is x op e, after_again (operation_word op) r) refl
+    by false e h more =
+        let parts = and_parts (clash (operation_word x) (operation_word op)) (is_first_of xs op) h in
+        rw (not_after (operation_word x) (operation_word op) r parts.0) (more parts.1)
+
 operation_kind_reads : (op : Operation) (r : Text) → operation_kind_at (operation_word op ++ r) ≡ Some (op, r)
 unfolding operation_kind_at
-operation_kind_reads operating.Create r = refl
-operation_kind_reads operating.Read r = refl
-operation_kind_reads operating.Write r = refl
-operation_kind_reads operating.Cleanup r = refl
+operation_kind_reads op r = reads_first all_operations op r (of_each (is_first_of all_operations) refl op)
 
 head_reads : (h : Head) → IsHead h → (r : Text) → head_at (prototype h ++ r) ≡ Some (prototyped h, r)
 unfolding head_at prototype deferred_prototype event_at routine_at pre_head post_head canceled_prototype deferred_head generic_head

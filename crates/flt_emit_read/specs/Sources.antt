@@ -5,8 +5,8 @@ use Rattle.std.specs.Char.{is_ascii_digit}
 use Rattle.std.specs.Str.{bytes_eq}
 use Rattle.flt_rules.specs.declared.call.LockKind.{LockKind}
 use Rattle.flt_rules.specs.declared.call.LockKind.TheVariants.{Spin, Fast, Push}
+use Rattle.flt_rules.specs.Place.{all_operations}
 use Rattle.flt_rules.specs.declared.place.Operation.{Operation}
-use Rattle.flt_rules.specs.declared.place.Operation.TheVariants as operating
 use Rattle.flt_tree.specs.Filter.{head_place, no_span}
 use Rattle.flt_rules.specs.Limits.{max_locks, max_callbacks}
 use Rattle.flt_tree.specs.Names.{Text}
@@ -48,9 +48,6 @@ unfoldable pub queue_at : Text → Front Bool
 queue_at z = or_else (after fixed.queue_fields z) (λ rest. Some (true, rest)) (Some (false, z))
 
 -- ---- prototypes
-
-abbrev pub all_operations : List Operation
-all_operations = operating.Create ∷ operating.Read ∷ operating.Write ∷ operating.Cleanup ∷ []
 
 unfoldable pub operation_kind_at : Text → Front Operation
 operation_kind_at = one_of (table operation_word all_operations)

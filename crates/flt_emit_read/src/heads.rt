@@ -21,17 +21,10 @@ use std::alloc::{AllocError, Global};
 fn operation_kind(z: &[u8]) -> Option<(Operation, &[u8])>
     ensures { front_of result ≡ spec.operation_kind_at z.now }
 {
-    if let Some(rest) = after(b"Create", z) {
-        return Some((Operation::Create, rest));
-    }
-    if let Some(rest) = after(b"Read", z) {
-        return Some((Operation::Read, rest));
-    }
-    if let Some(rest) = after(b"Write", z) {
-        return Some((Operation::Write, rest));
-    }
-    if let Some(rest) = after(b"Cleanup", z) {
-        return Some((Operation::Cleanup, rest));
+    for operation in Operation::all() {
+        if let Some(rest) = after(operation.title().as_bytes(), z) {
+            return Some((*operation, rest));
+        }
     }
     None
 }

@@ -1,19 +1,8 @@
 -- One more step of a loop over lists of sets.
 use Rattle.std.proofs.Common.{◌≡◌, ℕ, zero, suc, ◌<◌, ◌≤◌, false, List, [], ◌∷◌, ◌++◌, length, take, drop, set, get_or, refl, ap, arith}
 use Rattle.std.specs.Prelude.{map}
-use Rattle.flt_abs.specs.Sets.{StatusSet, either_status}
-use Rattle.flt_abs.specs.State.{either_all}
+use Rattle.flt_abs.specs.Sets.{StatusSet}
 use Rattle.flt_explain.specs.Sets.{or_all, are_same}
-
--- one more union, of those that stand at an index
-pub unite_step : (xs ys : List StatusSet) (i : ℕ) (d e : StatusSet) → i < length xs → i < length ys →
-    take i xs ++ either_all (drop i xs) (drop i ys)
-    ≡ take (suc i) (set xs i (either_status (get_or xs i d) (get_or ys i e)))
-    ++ either_all (drop (suc i) (set xs i (either_status (get_or xs i d) (get_or ys i e)))) (drop (suc i) ys)
-unite_step [] ys i d e h k = absurd (omega arith)
-unite_step (x ∷ xs) [] i d e h k = absurd (omega arith)
-unite_step (x ∷ xs) (y ∷ ys) zero d e h k = refl
-unite_step (x ∷ xs) (y ∷ ys) (suc i) d e h k = ap (λ zs. x ∷ zs) (unite_step xs ys i d e (omega arith) (omega arith))
 
 -- all in place of one more empty set
 pub fill_step : (xs : List StatusSet) (i : ℕ) (d : StatusSet) → i < length xs →

@@ -1,15 +1,14 @@
 //! The sets of a state in which broken rules were fixed. Unlike those of `Abs` they may be empty.
 
-ghost use Rattle.std.specs.Prelude.{◌≡◌, length, map, slice_index_or};
+ghost use Rattle.std.specs.Prelude.{◌≡◌, map, slice_index_or};
 ghost use Rattle.flt_abs.specs.Sets as sets_spec;
-ghost use Rattle.flt_abs.specs.State.{either_all};
 ghost use Rattle.flt_explain.specs.Sets as spec;
 
 use crate::finding::{Fault, Subject};
 use crate::mending::{mended, mended_draining, mended_modes};
 use crate::operands::OPERANDS;
 use crate::writes::writes;
-use flt_abs::{Abs, CONTEXTS, Draining, Modes, OPERATIONS, Statuses};
+use flt_abs::{Abs, CONTEXTS, Draining, Modes, OPERATIONS, Statuses, unite};
 use flt_graph::Instruction;
 use flt_rules::Rule;
 
@@ -82,16 +81,6 @@ fn are_same(a: &[Statuses], b: &[Statuses]) -> bool
         ([], []) => true,
         ([], [_, ..]) | ([_, ..], []) => false,
         ([x, a @ ..], [y, b @ ..]) => x.digit() == y.digit() && are_same(a, b),
-    }
-}
-
-/// Adds to each set the values of the other's.
-fn unite(into: &mut [Statuses], other: &[Statuses])
-    requires { length into.old ≡ length other.now }
-    ensures { into.new ≡ either_all into.old other.now }
-{
-    for index in 0..into.len() {
-        into[index] = into[index].union(other[index]);
     }
 }
 

@@ -8,8 +8,6 @@ use Rattle.flt_rules.specs.declared.call.LockKind.{LockKind}
 use Rattle.flt_rules.specs.declared.call.LockKind.TheVariants.{Spin, Fast, Push}
 use Rattle.flt_rules.specs.declared.place.Level.{Level}
 use Rattle.flt_rules.specs.declared.place.Level.TheVariants.{Passive, Apc, Dispatch}
-use Rattle.flt_rules.specs.declared.place.Operation.{Operation}
-use Rattle.flt_rules.specs.declared.place.Operation.TheVariants.{Create, Read, Write, Cleanup}
 use Rattle.flt_rules.specs.declared.status.StatusWord.{StatusWord}
 use Rattle.flt_rules.specs.declared.status.StatusWord.TheVariants as word
 use Rattle.flt_tree.specs.Names.{Text}
@@ -66,13 +64,6 @@ unfoldable pub level_name : Level → Text
 level_name Passive = codes "PASSIVE_LEVEL"
 level_name Apc = codes "APC_LEVEL"
 level_name Dispatch = codes "DISPATCH_LEVEL"
-
--- the word of an operation
-unfoldable pub operation_name : Operation → Text
-operation_name Create = codes "create"
-operation_name Read = codes "read"
-operation_name Write = codes "write"
-operation_name Cleanup = codes "cleanup"
 
 -- what a lock of a kind is called
 unfoldable pub kind_name : LockKind → Text

@@ -97,19 +97,6 @@ pub(crate) fn level_name(level: Level) -> &'static str
     }
 }
 
-/// The word of an operation.
-#[tactic(auto, unfolding(crate::specs::Names::operation_name))]
-pub(crate) fn operation_name(operation: Operation) -> &'static str
-    ensures { result.now ≡ spec.operation_name operation }
-{
-    match operation {
-        Operation::Create => "create",
-        Operation::Read => "read",
-        Operation::Write => "write",
-        Operation::Cleanup => "cleanup",
-    }
-}
-
 /// The words for a kind of lock.
 #[tactic(auto, unfolding(crate::specs::Names::kind_name))]
 pub(crate) fn kind_name(kind: LockKind) -> &'static str

@@ -7,11 +7,11 @@ ghost use Rattle.flt_explain_flows.specs.Flows as spec;
 ghost use Rattle.flt_explain_flows.specs.Running as running;
 
 use crate::naming::name_of;
-use crate::running::{Active, EntryActivation, Run, Stage, run_of};
-use flt_explain_timeline::{Row, Timeline, filters_of, tree_at};
+use crate::running::{Active, EntryActivation, Run, run_of};
+use flt_explain_timeline::{Row, Stage, Timeline, tree_at};
 use flt_model::{Journal, Verdict};
 use flt_places::Files;
-use flt_replay_world::Stack;
+use flt_replay_world::{Stack, filters_of};
 use flt_tree::{Filter, Span, Tree};
 use sqlite_items::Items;
 use std::alloc::{AllocError, Global};

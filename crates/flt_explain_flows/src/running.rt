@@ -8,15 +8,15 @@ ghost use Rattle.flt_replay_world.specs.Filters.{filters_behind};
 ghost use Rattle.flt_explain_timeline.specs.Course as told;
 ghost use Rattle.flt_explain_flows.specs.Running as spec;
 
-use flt_explain_timeline::{StartedCallback, callbacks_at, start_of};
+use flt_explain_timeline::{Stage, StartedCallback, callbacks_at, start_of};
 use flt_model::{Journal, JournalEntry, Move};
 use flt_replay_course::{make_move, step_seen, upcoming};
 use flt_replay_records::Upcoming;
 use flt_replay_steps::steps_unseen;
-use flt_replay_world::{Stack, World};
+use flt_replay_world::World;
 use flt_tree::{Filter, OperationVariable, Span, Statement};
 use sqlite_items::Items;
-use std::alloc::{AllocError, Global};
+use std::alloc::AllocError;
 
 /// A callback that has started, and the operation that it is about.
 #[derive(Clone, Copy)]
@@ -37,14 +37,6 @@ pub(crate) struct EntryActivation {
 pub(crate) struct Run {
     pub(crate) taken: Items<EntryActivation>,
     pub(crate) actives: Items<Active>,
-}
-
-/// The stack on which a journal is run: the filters from the highest altitude to the lowest, as the machine has them and as they are lent.
-#[derive(Clone, Copy)]
-pub(crate) struct Stage<'b, 'a> {
-    pub(crate) alloc: Global,
-    pub(crate) stack: &'b Stack<'a>,
-    pub(crate) filters: &'b [&'a Filter],
 }
 
 /// How far a journal was run.
@@ -90,8 +82,7 @@ fn next_span(next: Option<Upcoming<'_>>, end: Span) -> Span
         result ≡ spec.next_span end statements }
 {
     match next {
-        Some(Upcoming::Statement(statement)) => statement.span(),
-        Some(Upcoming::Repeat(span, _, _)) => *span,
+        Some(next) => next.span(),
         None => end,
     }
 }

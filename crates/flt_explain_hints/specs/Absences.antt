@@ -1,7 +1,9 @@
 -- Words that name what the language leaves out, and what to write in its place. The driver kit's names; the list is this project's own.
-use Rattle.std.specs.Prelude.{Bool, false, nat_eq, List, [], ◌∷◌, ◌++◌, Option, Some, None, codes, if◌then◌else◌, is_some, map}
-use Rattle.std.specs.List.{starts_with}
+use Rattle.std.specs.Prelude.{Bool, false, not, ◌&&◌, nat_eq, List, [], ◌∷◌, ◌++◌, Option, Some, None, codes, if◌then◌else◌, is_some, map}
+use Rattle.std.specs.List.{list_any, starts_with}
 use Rattle.std.specs.Option.{option_or}
+use Rattle.flt_rules.specs.Place.{all_named, all_operations, operation_name}
+use Rattle.flt_rules.specs.declared.place.Operation.{Operation}
 use Rattle.flt_syntax.specs.declared.fault.FaultKind.{FaultKind}
 use Rattle.flt_syntax.specs.declared.fault.FaultKind.TheVariants.{E03}
 use Rattle.flt_tree.specs.Names.{Text}
@@ -128,10 +130,15 @@ surroundings =
     ++ all_say absence.Declaration
     (codes "PFLT_" ∷ codes "NTSTATUS" ∷ codes "ULONG" ∷ codes "PVOID" ∷ codes "BOOLEAN" ∷ codes "KIRQL" ∷ [])
 
--- what the first of some beginnings names with which a word begins
+-- whether the name of an operation that the language has begins so
+abbrev pub begins_operation : Text → Bool
+begins_operation beginning = list_any (λ (kind : Operation). starts_with nat_eq (operation_name kind) beginning) all_operations
+
+-- what the first of some beginnings names with which a word begins; one with which an operation's name begins names nothing
 abbrev pub named_among : List (Text × Absence) → Text → Option Absence
 named_among [] word = None
-named_among (e ∷ es) word = if starts_with nat_eq word e.0 then Some e.1 else named_among es word
+named_among (e ∷ es) word =
+    if starts_with nat_eq word e.0 && not (begins_operation e.0) then Some e.1 else named_among es word
 
 -- what the language leaves out, if a word names it
 unfoldable pub absence_of : Text → Option Absence
@@ -159,7 +166,7 @@ sentence absence.SectionContext = codes "there are no sections and no data scans
 sentence absence.SeveralContexts =
     codes "contexts are got and released one at a time, as by `FltGetStreamContext` and `FltReleaseContext`"
 sentence absence.ContextSupport = codes "each stream and instance can have a context: leave this test out"
-sentence absence.Operation = codes "the only operations are `create`, `read`, `write` and `cleanup`: leave the callbacks of others out"
+sentence absence.Operation = codes "the only operations are "
 sentence absence.FilterOperation = codes "there are no file system filter operations and no status for them: leave their callbacks out"
 sentence absence.IrpTest = codes "this test is written `irp data`"
 sentence absence.FastIoTest = codes "there is no test for fast I/O: use the `else` of `if irp data`"
@@ -197,3 +204,8 @@ sentence absence.Registration = codes "the text itself registers the filter: it 
 sentence absence.Object = codes "the only objects are contexts and operations: leave this call out"
 sentence absence.Trace = codes "there is nothing to print or assert: leave this out"
 sentence absence.Declaration = codes "variables aren't declared: `n0` to `n7` are numbers, `c0` to `c7` contexts, `o0` to `o3` operations"
+
+-- what follows that
+abbrev pub rest : Absence → Text
+rest absence.Operation = all_named ++ codes ": leave the callbacks of others out"
+rest _ = []

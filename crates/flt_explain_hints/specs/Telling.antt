@@ -209,7 +209,7 @@ abbrev pub absence_at : Trouble → Option Absence
 absence_at t = option_or (absence_in t.spot.bytes.now t.choices) (misspelt_absence t.spot.bytes.now)
 
 abbrev pub absence_sentence : Option Absence → Text
-absence_sentence (Some absence) = absences.sentence absence
+absence_sentence (Some absence) = absences.sentence absence ++ absences.rest absence
 absence_sentence None = hints.sentence hint.LeftOut
 
 -- the sentence of a hint

@@ -3,6 +3,8 @@
 ghost use Rattle.std.specs.Prelude.{◌≡◌, map};
 ghost use Rattle.flt_explain_hints.specs.Absences as spec;
 
+use flt_rules::Operation;
+
 /// A feature that the language leaves out.
 #[derive(Clone, Copy)]
 pub(crate) enum Absence {
@@ -316,12 +318,21 @@ pub(crate) fn surroundings() -> &'static [(&'static [u8], Absence)]
     &SURROUNDINGS
 }
 
-/// The feature of the first entry of a table with which a word begins.
+/// Whether the name of an operation that the language has begins so.
+fn begins_operation(beginning: &[u8]) -> bool
+    ensures { result ≡ spec.begins_operation beginning.now }
+{
+    Operation::all()
+        .iter()
+        .any(|kind| kind.name().as_bytes().starts_with(beginning))
+}
+
+/// The feature of the first entry of a table with which a word begins. One with which an operation's name begins doesn't count.
 fn absence_among(table: &[(&'static [u8], Absence)], word: &[u8]) -> Option<Absence>
     ensures { result ≡ spec.named_among (map (λ e. (e.0.now, e.1)) table.now) word.now }
 {
     for entry in table {
-        if word.starts_with(entry.0) {
+        if word.starts_with(entry.0) && !begins_operation(entry.0) {
             return Some(entry.1);
         }
     }
@@ -380,8 +391,7 @@ impl Absence {
                 "contexts are got and released one at a time, as by `FltGetStreamContext` and `FltReleaseContext`",
             Absence::ContextSupport =>
                 "each stream and instance can have a context: leave this test out",
-            Absence::Operation =>
-                "the only operations are `create`, `read`, `write` and `cleanup`: leave the callbacks of others out",
+            Absence::Operation => "the only operations are ",
             Absence::FilterOperation =>
                 "there are no file system filter operations and no status for them: leave their callbacks out",
             Absence::IrpTest => "this test is written `irp data`",

@@ -2,6 +2,7 @@
 
 ghost use Rattle.std.specs.Prelude.{◌≡◌, ◌++◌, map, IfOk, OnOk};
 ghost use Rattle.std.specs.Option.{option_map};
+ghost use Rattle.flt_explain_hints.specs.Absences as absences;
 ghost use Rattle.flt_explain_hints.specs.Phrases.{phrase_of};
 ghost use Rattle.flt_explain_hints.specs.Telling as spec;
 
@@ -12,6 +13,7 @@ use crate::misspelt::misspelt_absence;
 use crate::open_call::OpenCall;
 use crate::phrases::{Phrase, phrases};
 use crate::troubles::Trouble;
+use flt_rules::Operation;
 use flt_syntax::FaultKind;
 use std::alloc::{AllocError, Global};
 
@@ -435,13 +437,30 @@ fn absence_at(alloc: Global, trouble: &Trouble<'_>) -> Result<Option<Absence>, A
     misspelt_absence(alloc, trouble.spot.bytes)
 }
 
-/// The words to write in place of a feature that the language leaves out.
-fn absence_sentence(alloc: Global, trouble: &Trouble<'_>) -> Result<&'static str, AllocError>
-    ensures { IfOk result (λ words. words.now ≡ spec.absence_sentence (spec.absence_at trouble.now)) }
+/// The words after the sentence about a feature that the language leaves out.
+fn put_rest(out: &mut Vec<u8>, absence: Absence) -> Result<(), AllocError>
+    ensures { OnOk result (out.new.items ≡ out.old.items ++ absences.rest absence) }
+{
+    match absence {
+        Absence::Operation => {
+            text(out, Operation::all_named())?;
+            text(out, ": leave the callbacks of others out")
+        }
+        _ => Ok(()),
+    }
+}
+
+/// Writes the words about a feature that the language leaves out.
+#[tactic(auto, using(crate::proofs::Written::joined))]
+fn put_absence(alloc: Global, out: &mut Vec<u8>, trouble: &Trouble<'_>) -> Result<(), AllocError>
+    ensures { OnOk result (out.new.items ≡ out.old.items ++ spec.absence_sentence (spec.absence_at trouble.now)) }
 {
     match absence_at(alloc, trouble)? {
-        Some(absence) => Ok(absence.sentence()),
-        None => Ok(Hint::LeftOut.sentence()),
+        Some(absence) => {
+            text(out, absence.sentence())?;
+            put_rest(out, absence)
+        }
+        None => text(out, Hint::LeftOut.sentence()),
     }
 }
 
@@ -451,14 +470,19 @@ fn is_left_out(hint: Hint) -> bool
     matches!(hint, Hint::LeftOut)
 }
 
-/// The sentence of a hint.
-fn sentence(alloc: Global, trouble: &Trouble<'_>, hint: Hint) -> Result<&'static str, AllocError>
-    ensures { IfOk result (λ words. words.now ≡ spec.sentence_of trouble.now hint) }
+/// Writes the sentence of a hint.
+fn put_hint(
+    alloc: Global,
+    out: &mut Vec<u8>,
+    trouble: &Trouble<'_>,
+    hint: Hint,
+) -> Result<(), AllocError>
+    ensures { OnOk result (out.new.items ≡ out.old.items ++ spec.sentence_of trouble.now hint) }
 {
     if is_left_out(hint) {
-        absence_sentence(alloc, trouble)
+        put_absence(alloc, out, trouble)
     } else {
-        Ok(hint.sentence())
+        text(out, hint.sentence())
     }
 }
 
@@ -473,7 +497,7 @@ fn help(
 {
     match (trouble.open_call, trouble.hint) {
         (Some(call), _) => call_help(alloc, out, trouble, call, line),
-        (None, Some(hint)) => text(out, sentence(alloc, trouble, hint)?),
+        (None, Some(hint)) => put_hint(alloc, out, trouble, hint),
         (None, None) => Ok(()),
     }
 }

@@ -2,7 +2,6 @@
 
 use flt_model::{Journal, JournalEntry, Move};
 use flt_replay_course::{go_locally, make_move, step_seen, upcoming};
-use flt_replay_records::Upcoming;
 use flt_replay_world::{Stack, World};
 use flt_tree::{OperationVariable, Statement};
 use std::alloc::{AllocError, Global};
@@ -69,8 +68,7 @@ impl<'b, 'a> Course<'b, 'a> {
     /// The line of the next statement in an activation; none at the end of its body.
     fn next_line(&mut self, activation: usize) -> Result<Option<usize>, AllocError> {
         Ok(match upcoming(&mut self.world, activation)? {
-            Some(Upcoming::Statement(statement)) => Some(statement.span().line),
-            Some(Upcoming::Repeat(span, _, _)) => Some(span.line),
+            Some(next) => Some(next.span().line),
             None => None,
         })
     }

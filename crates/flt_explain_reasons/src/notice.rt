@@ -35,7 +35,7 @@ pub struct Reason<'a> {
     /// The word that is probably meant, or nothing.
     pub meant: Vec<u8>,
     /// How to fix it.
-    pub help: &'static str,
+    pub help: String,
 }
 
 /// The report on an input that isn't the text of a filter.

@@ -4,7 +4,7 @@ use crate::cursor::{Cursor, last_number};
 use crate::lines::Lines;
 use crate::trouble::{Subject, Trouble, asked, bytes_of, found, line_end, number_below, word};
 use crate::wanted::Expectation;
-use flt_rules::MAX_OPERATIONS;
+use flt_rules::{MAX_OPERATIONS, Operation};
 use flt_tree::Tree;
 
 /// The number of files.
@@ -46,9 +46,15 @@ impl Before<'_> {
     }
 }
 
+/// Whether a word names an operation that comes as an I/O request packet alone.
+fn is_packet(word: &[u8]) -> bool {
+    Operation::all().iter().any(|operation| operation.is_always_irp()
+        && operation.name().as_bytes() == word)
+}
+
 /// An arrival: an operation, its mode and its file.
 fn arrival(cursor: &mut Cursor<'_>) -> Result<(), Expectation> {
-    let is_packet = matches!(cursor.word(), b"create" | b"cleanup");
+    let is_packet = is_packet(cursor.word());
     word(cursor, Expectation::Operation)?;
     asked(cursor.byte(b' '), Expectation::Blank)?;
     word(

@@ -139,10 +139,11 @@ fn meant(alloc: Global, wanted: Expectation, found: &[u8]) -> Result<Vec<u8>, Al
     }
 }
 
-fn help(trouble: &Trouble<'_>, found: &[u8]) -> &'static str {
+/// How to fix it.
+fn help(alloc: Global, trouble: &Trouble<'_>, found: &[u8]) -> Result<String, AllocError> {
     match found {
-        b"\r" => RETURNS,
-        _ => trouble.wanted.help(),
+        b"\r" => String::from_str(alloc, RETURNS),
+        _ => trouble.wanted.help(alloc),
     }
 }
 
@@ -163,6 +164,7 @@ pub(crate) fn reason<'a>(
     let note = note(alloc, kind, trouble, found)?;
     let message = message(alloc, &title, &note)?;
     let meant = meant(alloc, trouble.wanted, found)?;
+    let help = help(alloc, trouble, found)?;
     Ok(Reason {
         line,
         file_line: before.saturating_add(line),
@@ -173,6 +175,6 @@ pub(crate) fn reason<'a>(
         note,
         message,
         meant,
-        help: help(trouble, found),
+        help,
     })
 }

@@ -1,5 +1,7 @@
 //! The things that are wanted at a place of a line.
 
+use flt_rules::Operation;
+use std::alloc::{AllocError, Global};
 use std::fmt;
 
 /// A thing that is wanted at a place of a line.
@@ -75,8 +77,6 @@ const ENTRIES: [&[u8]; 14] = [
     b"end",
 ];
 
-const OPERATIONS: [&[u8]; 4] = [b"create", b"read", b"write", b"cleanup"];
-
 const MODES: [&[u8]; 2] = [b"irp", b"fast"];
 
 const PACKET: [&[u8]; 1] = [b"irp"];
@@ -118,7 +118,7 @@ impl Expectation {
     pub(crate) fn words(self) -> &'static [&'static [u8]] {
         match self {
             Expectation::Entry => &ENTRIES,
-            Expectation::Operation => &OPERATIONS,
+            Expectation::Operation => Operation::names(),
             Expectation::Mode => &MODES,
             Expectation::Key => &KEYS,
             Expectation::Answer => &ANSWERS,
@@ -129,7 +129,22 @@ impl Expectation {
     }
 
     /// How to fix a malformed place where this is wanted.
-    pub(crate) fn help(self) -> &'static str {
+    pub(crate) fn help(self, alloc: Global) -> Result<String, AllocError> {
+        let mut help = String::from_str(alloc, self.subject())?;
+        help.push_str(self.advice())?;
+        Ok(help)
+    }
+
+    /// The operations with which that begins.
+    fn subject(self) -> &'static str {
+        match self {
+            Expectation::Packet => Operation::always_irp_named(),
+            _ => "",
+        }
+    }
+
+    /// The rest of that.
+    fn advice(self) -> &'static str {
         match self {
             Expectation::FirstLine(_) | Expectation::Format =>
                 "the first line says which format follows, and in which version",
@@ -168,8 +183,7 @@ impl Expectation {
             Expectation::AnyNumber => "a number is decimal, without leading zeros, and below 2^32",
             Expectation::Command =>
                 "each line of a script is `arrive OPERATION MODE FILE`, `cancel SERIAL`, `detach ALTITUDE` or `refuse NUMBER`; no line is empty, none is a comment, and there is no `end`",
-            Expectation::Packet =>
-                "`create` and `cleanup` come as I/O request packets alone: `irp`",
+            Expectation::Packet => " come as I/O request packets alone: `irp`",
             Expectation::File => "files are numbered from 0, in decimal, without leading zeros",
             Expectation::Serial =>
                 "operations are numbered from 0 in the order of their arrival, in decimal, without leading zeros",
@@ -208,7 +222,7 @@ impl fmt::Display for Expectation {
             Expectation::OtherLock => write!(f, "the number of another lock, 0 to 7"),
             Expectation::LockEnd => write!(f, "`,` or the end of the line"),
             Expectation::Entry => write!(f, "an entry or `end`"),
-            Expectation::Operation => write!(f, "`create`, `read`, `write` or `cleanup`"),
+            Expectation::Operation => write!(f, "{}", Operation::any_named()),
             Expectation::Mode => write!(f, "`irp` or `fast`"),
             Expectation::Key => write!(f, "`stream` or `instance`"),
             Expectation::Answer => write!(f, "`yes` or `no`"),

@@ -1,9 +1,8 @@
 -- Which filters meet. This project's own definitions.
 use Rattle.std.specs.Prelude.{ℕ, ◌+◌, Bool, false, ◌&&◌, ◌||◌, List, Option, Some, None, take, drop, slice_get}
 use Rattle.std.specs.List.{list_any}
-use Rattle.flt_rules.specs.Place.{same_operation}
+use Rattle.flt_rules.specs.Place.{all_operations, same_operation}
 use Rattle.flt_rules.specs.declared.place.Operation.{Operation}
-use Rattle.flt_rules.specs.declared.place.Operation.TheVariants as op
 use Rattle.flt_tree.specs.declared.filter.Callback.{Callback}
 use Rattle.flt_tree.specs.declared.filter.Filter.{Filter}
 use Rattle.flt_tree.specs.declared.filter.Head.{Head}
@@ -27,7 +26,7 @@ abbrev pub meet_on : Filter → Filter → Operation → Bool
 meet_on f g kind = sees f kind && sees g kind
 
 abbrev pub meet : Filter → Filter → Bool
-meet f g = meet_on f g op.Create || (meet_on f g op.Read || (meet_on f g op.Write || meet_on f g op.Cleanup))
+meet f g = list_any (meet_on f g) all_operations
 
 abbrev pub meets_some : Filter → List Tree → Bool
 meets_some f others = list_any (λ (other : Tree). meet f other.filter) others

@@ -1,5 +1,6 @@
 -- What is said of certificates, journals and scripts above the last line. This project's own program.
 use Rattle.std.specs.Prelude.{◌≡◌, ℕ, ◌==◌, Bool, true, false, ◌&&◌, ◌||◌, List, [], ◌∷◌, ◌++◌, codes, eqb, if◌then◌else◌, length}
+use Rattle.std.specs.Prelude.{string_bytes}
 use Rattle.std.specs.Fmt.{decimal}
 use Rattle.std.specs.List.{starts_with}
 use Rattle.flt_tree.specs.Names.{Text}
@@ -70,7 +71,7 @@ pub record IsReasonReport (coloured : Bool) (name : Text) (r : Reason) (lines : 
   pub many : marked.marked ≡ length r.found.now
   pub message : marked.message.now ≡ r.message.items
   pub meant : marked.meant.now ≡ r.meant.items
-  pub help : marked.help.now ≡ r.help.now
+  pub help : marked.help.now ≡ string_bytes r.help
   pub whole : lines ≡ line_report coloured marked
 
 -- either one that is well-formed, or the first malformed line of another

@@ -33,10 +33,9 @@ fn meet_on(one: &Filter, other: &Filter, kind: Operation) -> bool
 fn meet(one: &Filter, other: &Filter) -> bool
     ensures { result ≡ spec.meet one.now other.now }
 {
-    meet_on(one, other, Operation::Create)
-        || meet_on(one, other, Operation::Read)
-        || meet_on(one, other, Operation::Write)
-        || meet_on(one, other, Operation::Cleanup)
+    Operation::all()
+        .iter()
+        .any(|kind| meet_on(one, other, *kind))
 }
 
 /// Whether a filter meets one of some others.

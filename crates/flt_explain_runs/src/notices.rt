@@ -113,7 +113,7 @@ fn malformed_lines(
         marked: reason.found.len(),
         message: reason.message.as_slice(),
         meant: reason.meant.as_slice(),
-        help: reason.help,
+        help: reason.help.as_str(),
     };
     let lines = report_line(alloc, coloured, &marked)?;
     Ok(lines)

@@ -25,14 +25,6 @@ pub(crate) struct Setter {
     pub(crate) line: usize,
 }
 
-/// The operations, beginning with the one that a driver sees least often.
-const OPERATIONS: [(Operation, &str); 4] = [
-    (Operation::Cleanup, "cleanup"),
-    (Operation::Create, "create"),
-    (Operation::Write, "write"),
-    (Operation::Read, "read"),
-];
-
 /// Whether a callback is of an operation.
 fn is_of(head: &Head, operation: Operation) -> bool {
     match head {
@@ -70,14 +62,27 @@ fn setter_lines(alloc: Global, operation: &str, unset: Unset) -> Result<String, 
     Ok(out)
 }
 
+/// The last operation in whose pre callback contexts can be set, of those that come as I/O request packets alone, or of the others.
+fn last_free(filter: &Filter, unset: Unset, is_always_irp: bool) -> Option<Operation> {
+    let mut operations = Operation::all().iter().rev();
+    let free = operations.find(|operation| {
+        operation.is_always_irp() == is_always_irp && is_free(filter, **operation, unset)
+    });
+    free.copied()
+}
+
+/// The operation of the callback that sets contexts, if one is free for that. Those that come as I/O request packets alone are asked first:
+/// a driver sees them least often.
+fn setting_operation(filter: &Filter, unset: Unset) -> Option<Operation> {
+    last_free(filter, unset, true).or(last_free(filter, unset, false))
+}
+
 /// The lines that a filter can have after its last one to set contexts on these anchors; none if no operation is free for that.
 fn added_lines(alloc: Global, filter: &Filter, unset: Unset) -> Result<Option<String>, AllocError> {
-    for (operation, word) in OPERATIONS {
-        if is_free(filter, operation, unset) {
-            return Ok(Some(setter_lines(alloc, word, unset)?));
-        }
+    match setting_operation(filter, unset) {
+        Some(operation) => Ok(Some(setter_lines(alloc, operation.name(), unset)?)),
+        None => Ok(None),
     }
-    Ok(None)
 }
 
 /// How many lines end in a text.

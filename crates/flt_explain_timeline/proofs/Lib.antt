@@ -6,5 +6,4 @@ pub mod LocalSteps
 pub mod Moves
 pub mod NextEntry
 pub mod SeenSteps
-pub mod Stacked
 pub mod Texts

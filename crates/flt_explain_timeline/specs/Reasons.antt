@@ -1,13 +1,19 @@
 -- Why an entry isn't enabled, in words. This project's own program.
 use Rattle.std.specs.Prelude.{ℕ, List, [], ◌++◌, Option, Some, None, codes}
 use Rattle.std.specs.Fmt.{decimal}
+use Rattle.flt_rules.specs.Place.{always_irp_named}
 use Rattle.flt_tree.specs.Names.{Text}
 use Rattle.flt_explain_timeline.specs.declared.refusal.Refusal.{Refusal}
 use Rattle.flt_explain_timeline.specs.declared.refusal.Refusal.TheVariants as refusals
 
--- the words of a reason, without the number of a step
+-- the operations with which a reason begins
+abbrev pub subject : Refusal → Text
+subject refusals.IsPacket = always_irp_named
+subject _ = []
+
+-- the words of a reason, without these operations and without the number of a step
 abbrev pub reason : Refusal → Text
-reason refusals.IsPacket = codes "`create` and `cleanup` are `irp`"
+reason refusals.IsPacket = codes " are `irp`"
 reason refusals.NoFile = codes "files are numbered below 1,024"
 reason refusals.NoOperation = codes "no such operation has arrived"
 reason refusals.IsVisited = codes "a filter has the operation: it is in a visit"
@@ -51,4 +57,4 @@ maybe_number None = []
 
 -- the words of a reason
 abbrev pub refusal_words : Refusal → Text
-refusal_words refusal = reason refusal ++ maybe_number (step_of refusal)
+refusal_words refusal = subject refusal ++ reason refusal ++ maybe_number (step_of refusal)

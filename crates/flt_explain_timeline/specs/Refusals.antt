@@ -1,11 +1,11 @@
 -- Why an entry isn't enabled: which condition of its move or step fails, in the world in which it comes. This project's own definitions.
 use Rattle.std.specs.Prelude.{ℕ, Bool, ◌||◌, nat_lt, if◌then◌else◌, List, length}
+use Rattle.flt_rules.specs.Place.{fits_mode}
 use Rattle.flt_rules.specs.declared.place.Mode.{Mode}
 use Rattle.flt_rules.specs.declared.place.Operation.{Operation}
 use Rattle.flt_tree.specs.declared.filter.Filter.{Filter}
 use Rattle.flt_model.specs.declared.moves.Move.{Move}
 use Rattle.flt_model.specs.declared.moves.Move.TheVariants as moves
-use Rattle.flt_model.specs.Moves.{fits_mode}
 use Rattle.flt_model.specs.Program.{filter_of}
 use Rattle.flt_model.specs.declared.parts.Position.{Position}
 use Rattle.flt_model.specs.declared.parts.Position.TheVariants.{Down, Visiting, Up}

@@ -6,10 +6,10 @@ use Rattle.std.specs.Char.{is_ascii_graphic}
 use Rattle.std.specs.Fmt.{decimal}
 use Rattle.flt_places.specs.Files.{file_at, file_line, file_name}
 use Rattle.flt_places.specs.declared.files.Files.{Files}
+use Rattle.flt_rules.specs.Place.{operation_name}
 use Rattle.flt_rules.specs.declared.place.Mode.{Mode}
 use Rattle.flt_rules.specs.declared.place.Mode.TheVariants.{Irp, Fast}
 use Rattle.flt_rules.specs.declared.place.Operation.{Operation}
-use Rattle.flt_rules.specs.declared.place.Operation.TheVariants.{Create, Read, Write, Cleanup}
 use Rattle.flt_tree.specs.Names.{Text}
 use Rattle.flt_tree.specs.declared.filter.Callback.{Callback}
 use Rattle.flt_tree.specs.declared.filter.Filter.{Filter}
@@ -32,12 +32,6 @@ Puts r old new text = OnOk r (new ≡ old ++ text)
 -- ---- lines of a journal, without their ends
 
 -- a kind of operation
-abbrev pub kind_word : Operation → Text
-kind_word Create = codes "create"
-kind_word Read = codes "read"
-kind_word Write = codes "write"
-kind_word Cleanup = codes "cleanup"
-
 -- a mode, between blanks
 abbrev pub mode_word : Mode → Text
 mode_word Irp = codes " irp "
@@ -50,7 +44,7 @@ choice_word false = codes " no"
 
 -- an operation arrives
 abbrev pub arrival_words : Operation → Mode → ℕ → Text
-arrival_words kind mode file = codes "arrive " ++ kind_word kind ++ mode_word mode ++ decimal file
+arrival_words kind mode file = codes "arrive " ++ operation_name kind ++ mode_word mode ++ decimal file
 
 -- a context loses its link
 abbrev pub unlink_words : ℕ → Key → Text
@@ -89,7 +83,7 @@ shown b = if is_ascii_graphic b then b else 63
 
 -- the head of an operation's callback, in quotes
 unfoldable pub head_on : Text → Operation → Text
-head_on word kind = codes "`" ++ word ++ kind_word kind ++ codes "`"
+head_on word kind = codes "`" ++ word ++ operation_name kind ++ codes "`"
 
 -- the head of a routine, in quotes
 unfoldable pub head_named : Text → Text → Text

@@ -104,8 +104,7 @@ pub(crate) fn next_line(next: Option<Upcoming<'_>>, end: usize) -> usize
         result ≡ spec.next_line end statements }
 {
     match next {
-        Some(Upcoming::Statement(statement)) => statement.span().line,
-        Some(Upcoming::Repeat(span, _, _)) => span.line,
+        Some(next) => next.span().line,
         None => end,
     }
 }

@@ -15,10 +15,10 @@ use std::alloc::{AllocError, Global};
 
 /// The stack on which a journal is run: the filters from the highest altitude to the lowest, as the machine has them and as they are lent.
 #[derive(Clone, Copy)]
-pub(crate) struct Stage<'b, 'a> {
-    pub(crate) alloc: Global,
-    pub(crate) stack: &'b Stack<'a>,
-    pub(crate) filters: &'b [&'a Filter],
+pub struct Stage<'b, 'a> {
+    pub alloc: Global,
+    pub stack: &'b Stack<'a>,
+    pub filters: &'b [&'a Filter],
 }
 
 fn outcome_of(sign: Option<Sign>, world: &World<'_>, activation: usize) -> Option<bool>

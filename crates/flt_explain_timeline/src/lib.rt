@@ -25,8 +25,9 @@ mod timeline;
 mod words;
 
 pub use callbacks::{callbacks_at, start_of};
-pub use filters::{filters_of, tree_at};
+pub use filters::tree_at;
 pub use folds::Fold;
+pub use going::Stage;
 pub use rows::Row;
 pub use telling::StartedCallback;
 pub use timeline::Timeline;

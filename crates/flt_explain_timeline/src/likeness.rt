@@ -6,16 +6,11 @@ use crate::telling::{Column, Happening, StartedCallback, Telling};
 use flt_model::Key;
 use flt_rules::{Mode, Operation};
 
+#[tactic(auto, using(flt_rules::proofs::Operations::same_is))]
 fn is_kind(one: Operation, other: Operation) -> bool
     ensures { IsTrue result → one ≡ other }
 {
-    match (one, other) {
-        (Operation::Create, Operation::Create)
-        | (Operation::Read, Operation::Read)
-        | (Operation::Write, Operation::Write)
-        | (Operation::Cleanup, Operation::Cleanup) => true,
-        _ => false,
-    }
+    one.is_same(other)
 }
 
 fn is_mode(one: Mode, other: Mode) -> bool

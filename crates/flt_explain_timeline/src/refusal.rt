@@ -7,7 +7,7 @@ ghost use Rattle.flt_replay_records.specs.Rest.{statement_of};
 ghost use Rattle.flt_tree.specs.declared.filter.Statement.{Statement as Written};
 ghost use Rattle.flt_explain_timeline.specs.Refusals as reasons;
 
-use flt_model::{Move, Position, fits_mode};
+use flt_model::{Move, Position};
 use flt_replay_course::is_local;
 use flt_replay_records::Upcoming;
 use flt_replay_world::{Stack, World};
@@ -66,12 +66,22 @@ impl Refusal {
         }
     }
 
-    /// The reason, in words; for a step that is seen, the words before its number.
+    /// The operations with which the reason begins.
+    pub(crate) fn subject(self) -> &'static str
+        ensures { result.now ≡ spec.subject self }
+    {
+        match self {
+            Refusal::IsPacket => Operation::always_irp_named(),
+            _ => "",
+        }
+    }
+
+    /// The rest of the reason, in words; for a step that is seen, the words before its number.
     pub(crate) fn words(self) -> &'static str
         ensures { result.now ≡ spec.reason self }
     {
         match self {
-            Refusal::IsPacket => "`create` and `cleanup` are `irp`",
+            Refusal::IsPacket => " are `irp`",
             Refusal::NoFile => "files are numbered below 1,024",
             Refusal::NoOperation => "no such operation has arrived",
             Refusal::IsVisited => "a filter has the operation: it is in a visit",
@@ -114,7 +124,7 @@ impl Refusal {
 fn of_arrival(kind: Operation, mode: Mode) -> Refusal
     ensures { result ≡ reasons.of_arrival kind mode }
 {
-    if fits_mode(kind, mode) {
+    if kind.fits(mode) {
         Refusal::NoFile
     } else {
         Refusal::IsPacket

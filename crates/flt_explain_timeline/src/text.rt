@@ -221,6 +221,7 @@ fn put_known(out: &mut String, refusal: Refusal) -> Result<(), AllocError>
 fn put_refusal(out: &mut String, refusal: Refusal) -> Result<(), AllocError>
     ensures { Puts result (string_bytes out.old) (string_bytes out.new) (refusal_words refusal) }
 {
+    out.push_str(refusal.subject())?;
     let reason = refusal.words();
     match refusal.step() {
         Some(step) => put_one(out, reason, step),

@@ -8,7 +8,7 @@ ghost use Rattle.flt_explain_timeline.specs.Tellings.{AreToldBy};
 ghost use Rattle.flt_explain_timeline.specs.Timelines as spec;
 
 use crate::course::{Course, course_of};
-use crate::filters::{filters_of, tree_at};
+use crate::filters::tree_at;
 use crate::folds::{Fold, folds_of};
 use crate::going::Stage;
 use crate::refusal::Refusal;
@@ -18,7 +18,7 @@ use crate::telling::Who;
 use crate::tellings::Tellings;
 use flt_model::{Journal, Verdict};
 use flt_places::Files;
-use flt_replay_world::Stack;
+use flt_replay_world::{Stack, filters_of};
 use flt_tree::{Filter, Tree};
 use sqlite_items::Items;
 use std::alloc::{AllocError, Global};

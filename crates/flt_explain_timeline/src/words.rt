@@ -12,17 +12,6 @@ use flt_tree::{Filter, Head};
 use std::alloc::AllocError;
 use std::fmt::Write;
 
-pub(crate) fn kind_word(kind: Operation) -> &'static str
-    ensures { result.now ≡ spec.kind_word kind }
-{
-    match kind {
-        Operation::Create => "create",
-        Operation::Read => "read",
-        Operation::Write => "write",
-        Operation::Cleanup => "cleanup",
-    }
-}
-
 /// The word of a mode, between blanks.
 fn mode_word(mode: Mode) -> &'static str
     ensures { result.now ≡ spec.mode_word mode }
@@ -57,7 +46,7 @@ fn put_two(out: &mut String, word: &str, one: u32, other: u32) -> Result<(), All
 fn put_arrival(out: &mut String, kind: Operation, mode: Mode, file: u32) -> Result<(), AllocError>
     ensures { spec.Puts result (string_bytes out.old) (string_bytes out.new) (spec.arrival_words kind mode file) }
 {
-    let kind = kind_word(kind);
+    let kind = kind.name();
     let mode = mode_word(mode);
     write!(out, "arrive {kind}{mode}{file}")
 }
@@ -145,7 +134,7 @@ fn put_named(out: &mut String, word: &str, name: &[u8]) -> Result<(), AllocError
 fn put_head_on(out: &mut String, word: &str, kind: Operation) -> Result<(), AllocError>
     ensures { spec.Puts result (string_bytes out.old) (string_bytes out.new) (spec.head_on word.now kind) }
 {
-    let kind = kind_word(kind);
+    let kind = kind.name();
     write!(out, "`{word}{kind}`")
 }
 

@@ -38,6 +38,7 @@ use Rattle.flt_graph.specs.declared.instruction.Invocation.{Invocation}
 use Rattle.flt_abs.specs.Breaks.{hands_by, is_need_output, is_possessed, is_of_mode, owes_data, action_breaks}
 use Rattle.flt_abs.specs.Breaks.{test_breaks, row_breaks, returns_illegally, return_breaks, breaks}
 use Rattle.flt_abs.specs.LockLaws.{same_locks_decides}
+use Rattle.flt_abs.proofs.Outcomes.{have_at}
 use Rattle.flt_abs.specs.Locks.{are_locks}
 use Rattle.flt_abs.specs.Outcome.{context_now, operation_now}
 use Rattle.flt_abs.specs.Setting.{setting_of}
@@ -171,14 +172,6 @@ may_be_fast s Irp h e = cc
 may_be_fast s Fast h e = h
 
 -- ---- lists of sets
-
-have_at : (xs : List StatusSet) (ts : List Status) (i : ℕ) → have_statuses xs ts ≡ true →
-    has_status (slice_index_or xs i null_alone) (slice_index_or ts i Null) ≡ true
-have_at [] [] i h = refl
-have_at [] (t ∷ ts) i h = cc
-have_at (s ∷ xs) [] i h = cc
-have_at (s ∷ xs) (t ∷ ts) zero h = (and_parts (has_status s t) (have_statuses xs ts) h).0
-have_at (s ∷ xs) (t ∷ ts) (suc i) h = have_at xs ts i (and_parts (has_status s t) (have_statuses xs ts) h).1
 
 alone_at : (ts : List Status) (i : ℕ) → slice_index_or (map status_alone ts) i null_alone ≡ status_alone (slice_index_or ts i Null)
 alone_at [] i = refl

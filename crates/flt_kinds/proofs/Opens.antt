@@ -1,7 +1,7 @@
 -- The first `pre create` that completes with success.
 use Rattle.std.proofs.Common.{arith, ◌≡◌, ◌<◌, ◌≤◌, ◌&&◌, ℕ, zero, suc, Bool, true, false, true≢false, Option}
 use Rattle.std.proofs.Common.{Some, None, is_none, unwrap_or, length, ap, sym, refl, subst, ⊎_elim}
-use Rattle.flt_rules.specs.declared.place.Operation.TheVariants.{Create, Read, Write, Cleanup}
+use Rattle.flt_rules.specs.declared.place.Operation.TheVariants.{Create}
 use Rattle.flt_rules.specs.declared.place.Place.{Place}
 use Rattle.flt_rules.specs.declared.place.Place.TheVariants as place
 use Rattle.flt_rules.specs.declared.status.FinalStatus.TheVariants.{Success, AccessDenied, Cancelled, InsufficientResources}
@@ -39,14 +39,7 @@ not_so e = absurd (true≢false (sym e))
 
 creates : (p : Place) → is_create p ≡ true → p ≡ place.Pre Create
 creates (place.Pre Create) e = refl
-creates (place.Pre Read) e = not_so e
-creates (place.Pre Write) e = not_so e
-creates (place.Pre Cleanup) e = not_so e
-creates (place.Post op) e = not_so e
-creates place.Canceled e = not_so e
-creates place.DeferredPre e = not_so e
-creates place.DeferredPost e = not_so e
-creates place.Generic e = not_so e
+creates p e = not_so e
 
 succeeds : (i : Instruction) → is_success i ≡ true → i ≡ instruction.Return (Some (Complete Success))
 succeeds (instruction.Return (Some (Complete Success))) e = refl

@@ -5,6 +5,7 @@ use Rattle.std.proofs.Math.ListN.{set, get_or}
 use Rattle.std.proofs.lemmas.Bool.{cases_lt}
 use Rattle.std.proofs.lemmas.List.{get_or-set_same, get_or_past, length-append}
 use Rattle.std.specs.Prelude.{nat_lt}
+use Rattle.flt_rules.specs.Place.{fits_mode}
 use Rattle.flt_rules.specs.declared.place.Mode.{Mode}
 use Rattle.flt_rules.specs.declared.place.Operation.{Operation}
 use Rattle.flt_tree.specs.declared.filter.Filter.{Filter}
@@ -15,7 +16,7 @@ use Rattle.flt_model.specs.declared.moves.Move.TheVariants as move
 use Rattle.flt_model.specs.declared.subject.Subject.{Subject}
 use Rattle.flt_model.specs.declared.subject.Subject.TheVariants as subject
 use Rattle.flt_model.specs.Effects.{Step}
-use Rattle.flt_model.specs.Moves.{arrive, fits_mode, make, stores, with_arrival}
+use Rattle.flt_model.specs.Moves.{arrive, make, stores, with_arrival}
 use Rattle.flt_model.specs.Runs.{Moment}
 use Rattle.flt_model.specs.World.{World, Store}
 use Rattle.flt_machine_store.specs.Changes.{after_change}

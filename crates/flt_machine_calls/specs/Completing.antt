@@ -10,7 +10,7 @@ use Rattle.flt_model.specs.declared.event.Object.TheVariants.{Visit}
 use Rattle.flt_model.specs.Effects.{Step, operation, optional, uses, empties, loses_context, calling, goes_on, onward, unchanged}
 use Rattle.flt_model.specs.Settling.{way_of, makes_frame, settled_by}
 use Rattle.flt_model.specs.World.{World, Store}
-use Rattle.flt_machine_calls.specs.declared.effects.CallOperands.{CallOperands}
+use Rattle.flt_model.specs.declared.effects.CallOperands.{CallOperands}
 use Rattle.flt_machine_calls.specs.declared.settling.Completion.{Completion}
 use Rattle.flt_machine_calls.specs.declared.settling.Settlement.{Settlement}
 

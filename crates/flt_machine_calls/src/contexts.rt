@@ -12,10 +12,10 @@ ghost use Rattle.flt_machine_store.specs.Changes.{AreCounted, IsPossible, cancel
 ghost use Rattle.flt_tree.specs.declared.filter.Statement.{Statement};
 
 use crate::caller::Caller;
-use crate::effects::{context as context_object, need, operation as operation_object};
 use crate::plans::{Plan, Write, made_plan};
 use counted_heap::Heap;
 use flt_machine_store::{Change, Store};
+use flt_model::effects::{context as context_object, need, operation as operation_object};
 use flt_model::{Event, Key, Object, Variables};
 use flt_rules::{Anchor, Call, Existing};
 use flt_tree::{ContextVariable, OperationVariable};

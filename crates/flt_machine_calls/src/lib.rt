@@ -8,7 +8,6 @@
 mod caller;
 mod contexts;
 mod continuing;
-mod effects;
 mod locking;
 mod planning;
 mod plans;

@@ -1,6 +1,6 @@
 //! Calls on the cancel-safe queue and on work items: a visit or context that is handed over is no longer held, whether it was held or not.
 
-ghost use Rattle.std.specs.Prelude.{◌≡◌, ◌≢◌, ◌++◌, [], List, IfOk, OnOk, if◌then◌else◌, false, OnErr};
+ghost use Rattle.std.specs.Prelude.{◌≡◌, ◌≢◌, [], List, IfOk, OnOk, if◌then◌else◌, false, OnErr};
 ghost use Rattle.flt_model.specs.Calls as calls;
 ghost use Rattle.flt_model.specs.Effects as effects;
 ghost use Rattle.flt_model.specs.Variables as variables;
@@ -13,12 +13,12 @@ ghost use Rattle.flt_machine_store.specs.Changes.{AreCounted, IsPossible, cancel
 ghost use Rattle.flt_tree.specs.declared.variable.OperationVariable.TheVariants.{Data};
 
 use crate::caller::Caller;
-use crate::effects::{CallOperands, context, gain_context, lose_context, need, need_named};
 use crate::plans::{Plan, Write, made_plan};
 use crate::settling::named_in;
 use counted_heap::Heap;
 use flt_machine_frames::Standing;
 use flt_machine_store::{Change, Store};
+use flt_model::effects::{CallOperands, gain_context, lose_context, need_named, need_optional};
 use flt_model::{Event, Object, Variables};
 use flt_rules::Call;
 use flt_tree::{ContextVariable, OperationVariable, RemovedVariable};
@@ -32,24 +32,6 @@ fn handed(standing: &Standing, variable: Option<ContextVariable>) -> CallOperand
     CallOperands {
         visit: standing.operation(OperationVariable::Data),
         context: named_in(standing, variable),
-    }
-}
-
-/// Adds the events for a context that a call need not have.
-fn need_optional(
-    heap: &mut Heap,
-    a: usize,
-    named: Option<Option<usize>>,
-    events: &mut Vec<Event>,
-) -> Result<(), AllocError>
-    ensures told { OnOk result (events.new.items ≡ events.old.items
-        ++ (effects.uses a (effects.optional named) ++ effects.empties a (effects.optional named))) }
-    ensures granted { OnOk result (heap.new ≡ heap.old) }
-    ensures memory { OnErr result (heap.new ≢ heap.old) }
-{
-    match named {
-        Some(named) => need(heap, a, &[context(named)], events),
-        None => Ok(()),
     }
 }
 

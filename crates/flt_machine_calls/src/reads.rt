@@ -11,10 +11,10 @@ ghost use Rattle.flt_machine_store.specs.Changes.{AreCounted, IsPossible, cancel
 ghost use Rattle.flt_tree.specs.declared.filter.Statement.{Statement};
 
 use crate::caller::Caller;
-use crate::effects::{context as context_object, need, operation as operation_object};
 use crate::plans::{Plan, Write, made_plan};
 use counted_heap::Heap;
 use flt_machine_store::{Change, Store};
+use flt_model::effects::{context as context_object, need, operation as operation_object};
 use flt_model::{Event, Variables};
 use flt_tree::{Atom, ContextVariable, NumberVariable, OperationVariable};
 use std::alloc::AllocError;

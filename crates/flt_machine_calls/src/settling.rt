@@ -26,11 +26,11 @@ ghost use Rattle.flt_machine_calls.specs.Own.{AreOwn};
 ghost use Rattle.flt_machine_store.specs.Changes.{AreCounted, IsPossible, cancels_entries};
 
 use crate::caller::Caller;
-use crate::effects::{CallOperands, context, lose_context, need, need_named};
 use crate::plans::{Plan, Write, made_plan};
 use counted_heap::Heap;
 use flt_machine_frames::{Loaded, Standing};
 use flt_machine_store::{Change, Store};
+use flt_model::effects::{CallOperands, context, lose_context, need, need_named};
 use flt_model::{Answer, Event, Object, Variables, Way};
 use flt_rules::{Call, Stage};
 use flt_tree::{ContextVariable, OperationVariable, Status, named_context};

@@ -16,7 +16,7 @@ use crate::decision::{Decision, Start};
 use crate::{teardown, waiting};
 use flt_machine_frames::Loaded;
 use flt_machine_store::{Change, Store};
-use flt_model::{Move, fits_mode};
+use flt_model::Move;
 use flt_rules::{Mode, Operation, Place};
 
 /// There are 1,024 files.
@@ -25,7 +25,7 @@ fn arrive(kind: Operation, mode: Mode, file: u32) -> Option<Decision>
     ensures possible { IfSome result (λ d. (s : world.Store) → length s.arrivals < max_operations → IsPossible s d.change) }
     ensures few { IfSome result (λ d. cancels_entries d.change ≡ false) }
 {
-    if fits_mode(kind, mode) && file < 1024 {
+    if kind.fits(mode) && file < 1024 {
         Some(Decision::only(Change::Arrive(kind, mode, file)))
     } else {
         None

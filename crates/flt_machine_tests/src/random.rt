@@ -6,7 +6,7 @@ use crate::dice::Dice;
 use crate::scene::{Answer, Scene, finding};
 use crate::texts;
 use flt_model::{JournalEntry, Key, Move};
-use flt_rules::{Mode, Operation};
+use flt_rules::{Mode, OPERATIONS, Operation};
 use std::alloc::Global;
 use std::process::Abort;
 use std::test::Fail;
@@ -257,13 +257,10 @@ impl Dice {
         }
     }
 
+    /// An operation. The last one comes half as often as each other.
     fn operation(&mut self) -> Operation {
-        match self.roll(7) {
-            0 | 1 => Operation::Create,
-            2 | 3 => Operation::Read,
-            4 | 5 => Operation::Write,
-            _ => Operation::Cleanup,
-        }
+        let rolled = self.roll(2 * OPERATIONS as u64 - 1);
+        Operation::all()[rolled / 2]
     }
 
     fn mode(&mut self) -> Mode {

@@ -12,6 +12,7 @@ mod LinePartLaws
 mod LinesOnline
 mod Numbers
 mod Online
+mod OperationSteps
 mod ReadingSteps
 mod SpelledOnce
 mod SpelledRead

@@ -2,10 +2,10 @@
 use Rattle.std.proofs.Common.{◌≡◌, ◌<◌, ◌+◌, ◌%◌, ◌^◌, ℕ, suc, Bool, true, false, [], ◌∷◌, ◌++◌, refl, sym, ap, arith, ◌∙◌, append_assoc}
 use Rattle.std.specs.Prelude.{◌==◌, if◌then◌else◌, Option, Some, None, codes}
 use Rattle.std.specs.Fmt.{decimal}
-use Rattle.std.proofs.lemmas.Bool.{ne_eqb}
+use Rattle.std.proofs.lemmas.Bool.{eqb-true, ne_eqb}
 use Rattle.std.proofs.lemmas.Fmt.{decimal_by_steps}
+use Rattle.flt_rules.proofs.Operations.{of_each}
 use Rattle.flt_rules.specs.declared.place.Operation.{Operation}
-use Rattle.flt_rules.specs.declared.place.Operation.TheVariants.{Create, Read, Write, Cleanup}
 use Rattle.flt_rules.specs.declared.place.Mode.{Mode}
 use Rattle.flt_rules.specs.declared.place.Mode.TheVariants.{Irp, Fast}
 use Rattle.flt_model.specs.Streams.{Text}
@@ -57,10 +57,7 @@ number_plain : (n : ℕ) → n < 2 ^ 32 → line_ends (number_text n 32) ≡ 0
 number_plain n small = ends_both (decimal n) (32 ∷ []) ∙ (let plain = decimal_plain n small in omega arith)
 
 operation_plain : (o : Operation) → line_ends (operation_text o) ≡ 0
-operation_plain Create = refl
-operation_plain Read = refl
-operation_plain Write = refl
-operation_plain Cleanup = refl
+operation_plain o = eqb-true (line_ends (operation_text o)) 0 (of_each (λ o. line_ends (operation_text o) == 0) refl o)
 
 mode_plain : (m : Mode) → line_ends (mode_text m) ≡ 0
 mode_plain Irp = refl

@@ -1,14 +1,12 @@
 -- Lines: what is read is spelled so, and a wrong byte goes on no line.
 use Rattle.std.proofs.Common.{◌≡◌, ◌<◌, ◌^◌, ℕ, Bool, true, false, [], ◌∷◌, ◌++◌, refl, sym, ap, subst, ◌∙◌, append-nil}
-use Rattle.std.specs.Prelude.{◌==◌, if◌then◌else◌, Option, Some, None, codes}
-use Rattle.flt_rules.specs.declared.place.Operation.{Operation}
-use Rattle.flt_rules.specs.declared.place.Operation.TheVariants.{Create, Read, Write, Cleanup}
+use Rattle.std.specs.Prelude.{Option, Some, None, codes}
 use Rattle.flt_rules.specs.declared.place.Mode.{Mode}
 use Rattle.flt_rules.specs.declared.place.Mode.TheVariants.{Irp, Fast}
 use Rattle.flt_model.specs.Streams.{Text}
 use Rattle.flt_model.specs.JournalText.{IsKey, IsMove, IsEntry, number_text, operation_text, mode_text}
 use Rattle.flt_model.specs.JournalText.{key_text, grant_text, move_line, entry_line, last_line}
-use Rattle.flt_model.specs.JournalTextReading.{Parser, ◌>>=◌, ◌>>◌, pure, wrong, byte, exactly, number, line, operation}
+use Rattle.flt_model.specs.JournalTextReading.{Parser, ◌>>=◌, ◌>>◌, pure, exactly, number, line, operation}
 use Rattle.flt_model.specs.JournalTextReading.{mode, key, grant, numbered, twice_numbered, arrive, pre_or_post, cancel_or_canceled}
 use Rattle.flt_model.specs.JournalTextReading.{detach_or_detached, detach_or_drain, unlink, go, move_by}
 use Rattle.flt_model.specs.declared.moves.JournalEntry.{JournalEntry}
@@ -18,6 +16,7 @@ use Rattle.flt_model.specs.declared.moves.Key.TheVariants.{Stream, Instance}
 use Rattle.flt_model.specs.declared.moves.Move.{Move}
 use Rattle.flt_model.specs.declared.moves.Move.TheVariants as moves
 use Rattle.flt_model.proofs.Online.{Online, Choice, dead, said, pure_online, then_online, choice_then, node, pick, after}
+use Rattle.flt_model.proofs.OperationSteps.{operation_online}
 use Rattle.flt_model.proofs.Numbers.{Whole, number_online, with_number}
 
 -- a line that a number ends
@@ -36,38 +35,7 @@ named : {A B : Type 0} (text_of : A → Text) (Js : Text → B → Type 0) (p : 
 named text_of Js p k o f = then_online (λ c a. c ≡ text_of a) Js p k o
     (λ c a e. subst (λ z. Online (λ w b. Js (z ++ w) b) (k a)) (sym e) (f a))
 
--- ---- operations, modes, keys and answers
-
-abbrev Op : Text → Operation → Type 0
-Op c o = c ≡ operation_text o
-
-read_online : Online (λ w a. Op (114 ∷ w) a) (exactly (codes "ead ") >> pure Read)
-read_online = word (λ w a. Op (114 ∷ w) a) (codes "ead ") Read refl
-
-write_online : Online (λ w a. Op (119 ∷ w) a) (exactly (codes "rite ") >> pure Write)
-write_online = word (λ w a. Op (119 ∷ w) a) (codes "rite ") Write refl
-
-create_online : Online (λ w a. Op (99 ∷ 114 ∷ w) a) (exactly (codes "eate ") >> pure Create)
-create_online = word (λ w a. Op (99 ∷ 114 ∷ w) a) (codes "eate ") Create refl
-
-cleanup_online : Online (λ w a. Op (99 ∷ 108 ∷ w) a) (exactly (codes "eanup ") >> pure Cleanup)
-cleanup_online = word (λ w a. Op (99 ∷ 108 ∷ w) a) (codes "eanup ") Cleanup refl
-
-by_c_online : Online (λ w a. Op (99 ∷ w) a)
-    (byte >>= λ b. if b == 114 then exactly (codes "eate ") >> pure Create
-    else (if b == 108 then exactly (codes "eanup ") >> pure Cleanup else wrong))
-by_c_online =
-    node (λ w a. Op (99 ∷ w) a) (λ b. if b == 114 then exactly (codes "eate ") >> pure Create
-    else (if b == 108 then exactly (codes "eanup ") >> pure Cleanup else wrong)) 114 create_online
-    (λ b. pick (λ w a. Op (99 ∷ w) a) b 114 (exactly (codes "eate ") >> pure Create)
-    (if b == 108 then exactly (codes "eanup ") >> pure Cleanup else wrong) create_online
-    (λ e. pick (λ w a. Op (99 ∷ w) a) b 108 (exactly (codes "eanup ") >> pure Cleanup) wrong cleanup_online (λ e. dead (λ text. refl))))
-
-operation_online : Online Op operation
-unfolding operation
-operation_online = node Op _ 114 read_online
-    (λ b. pick Op b 114 _ _ read_online
-    (λ e. pick Op b 119 _ _ write_online (λ e. pick Op b 99 _ _ by_c_online (λ e. dead (λ text. refl)))))
+-- ---- modes, keys and answers
 
 abbrev Mo : Text → Mode → Type 0
 Mo c m = c ≡ mode_text m

@@ -10,7 +10,7 @@ use Rattle.std.specs.List.{list_all}
 use Rattle.std.specs.Prelude.{not, ◌&&◌, ◌||◌, ◌==◌, nat_lt, if◌then◌else◌, filter, find, option_map, is_some}
 use Rattle.flt_rules.specs.Call.{place_of}
 use Rattle.flt_rules.specs.Held.{are_compatible, holds_lock}
-use Rattle.flt_rules.specs.Place.{answers}
+use Rattle.flt_rules.specs.Place.{answers, fits_mode}
 use Rattle.flt_rules.specs.declared.call.Existing.{Existing}
 use Rattle.flt_rules.specs.declared.call.Existing.TheVariants.{Keep, Replace}
 use Rattle.flt_rules.specs.declared.call.LockNumber.{LockNumber}
@@ -52,7 +52,7 @@ use Rattle.flt_model.specs.Calls.{defer_by, queue_by, complete_by, complete_pre,
 use Rattle.flt_model.specs.Effects.{Step, after_unlink}
 use Rattle.flt_model.specs.LocalSteps.{local_step}
 use Rattle.flt_model.specs.Locks.{holders_of, with_holders, may_join, is_free_for, exclude, locks_exclude}
-use Rattle.flt_model.specs.Moves.{calls_pre, pre_at, skip_at, lower_at, last_frame, post_by, post_at, fits_mode, is_done}
+use Rattle.flt_model.specs.Moves.{calls_pre, pre_at, skip_at, lower_at, last_frame, post_by, post_at, is_done}
 use Rattle.flt_model.specs.Moves.{is_entry_of, canceled_by, work_by, is_frame_of, drain_by, unlink_by, is_drained, make}
 use Rattle.flt_model.specs.Program.{callbacks_at, filter_of, routine_of}
 use Rattle.flt_model.specs.Reads.{read_value, write_value, read_file, test_irp, read_value_of, write_value_of, read_file_of, test_irp_of}

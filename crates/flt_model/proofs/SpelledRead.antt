@@ -3,12 +3,12 @@ use Rattle.std.proofs.Common.{◌≡◌, ◌≤◌, ℕ, zero, suc, Bool, true, 
 use Rattle.std.proofs.Common.{refl, sym, ap, arith, ◌∙◌, append_assoc, append-nil}
 use Rattle.std.specs.Prelude.{Option, Some, None, Ok}
 use Rattle.std.specs.List.{flat_map, AllByRecursion}
-use Rattle.flt_rules.specs.declared.place.Operation.TheVariants.{Create, Read, Write, Cleanup}
+use Rattle.flt_rules.specs.declared.place.Mode.{Mode}
 use Rattle.flt_rules.specs.declared.place.Mode.TheVariants.{Irp, Fast}
 use Rattle.flt_model.specs.Streams.{Text}
-use Rattle.flt_model.specs.JournalText.{Entries, IsEntry, IsJournal, most_entries, number_text}
+use Rattle.flt_model.specs.JournalText.{Entries, IsEntry, IsJournal, most_entries, number_text, operation_text, mode_text}
 use Rattle.flt_model.specs.JournalText.{key_text, grant_text, entry_line, last_line, spelling}
-use Rattle.flt_model.specs.JournalTextReading.{line, operation, mode, key, grant, numbered, twice_numbered, arrive, pre_or_post}
+use Rattle.flt_model.specs.JournalTextReading.{line, mode, key, grant, numbered, twice_numbered, arrive, pre_or_post}
 use Rattle.flt_model.specs.JournalTextReading.{cancel_or_canceled, detach_or_detached, detach_or_drain, unlink, go, move_by, entries_from}
 use Rattle.flt_model.specs.JournalTextReading.{journal}
 use Rattle.flt_model.specs.declared.moves.JournalEntry.{JournalEntry}
@@ -17,6 +17,12 @@ use Rattle.flt_model.specs.declared.moves.Key.TheVariants.{Stream, Instance}
 use Rattle.flt_model.specs.declared.moves.Move.TheVariants as moves
 use Rattle.flt_model.proofs.LinesOnline.{line_text, IsLine}
 use Rattle.flt_model.proofs.Numbers.{number_again}
+use Rattle.flt_model.proofs.OperationSteps.{operation_again}
+
+mode_again : (m : Mode) (text : Text) → mode (mode_text m ++ text) ≡ Ok (m, text)
+unfolding mode
+mode_again Irp text = refl
+mode_again Fast text = refl
 
 grant_again : (granted : Bool) (text : Text) → grant (grant_text granted ++ text) ≡ Ok (granted, text)
 unfolding grant
@@ -25,16 +31,16 @@ grant_again false text = refl
 
 -- the line of an entry is read as this entry
 pub line_again : (entry : JournalEntry) (text : Text) → IsEntry entry → line (entry_line entry ++ text) ≡ Ok (Some entry, text)
-unfolding line operation mode key numbered twice_numbered arrive pre_or_post cancel_or_canceled detach_or_detached detach_or_drain
+unfolding line key numbered twice_numbered arrive pre_or_post cancel_or_canceled detach_or_detached detach_or_drain
     unlink go move_by
-line_again (entries.Move (moves.Arrive Create Irp file)) text h = rw (number_again 10 file text (omega arith) h) refl
-line_again (entries.Move (moves.Arrive Create Fast file)) text h = rw (number_again 10 file text (omega arith) h) refl
-line_again (entries.Move (moves.Arrive Read Irp file)) text h = rw (number_again 10 file text (omega arith) h) refl
-line_again (entries.Move (moves.Arrive Read Fast file)) text h = rw (number_again 10 file text (omega arith) h) refl
-line_again (entries.Move (moves.Arrive Write Irp file)) text h = rw (number_again 10 file text (omega arith) h) refl
-line_again (entries.Move (moves.Arrive Write Fast file)) text h = rw (number_again 10 file text (omega arith) h) refl
-line_again (entries.Move (moves.Arrive Cleanup Irp file)) text h = rw (number_again 10 file text (omega arith) h) refl
-line_again (entries.Move (moves.Arrive Cleanup Fast file)) text h = rw (number_again 10 file text (omega arith) h) refl
+line_again (entries.Move (moves.Arrive o m file)) text h =
+    rw (
+      append_assoc (operation_text o) (mode_text m ++ number_text file 10) text,
+      operation_again o ((mode_text m ++ number_text file 10) ++ text),
+      append_assoc (mode_text m) (number_text file 10) text,
+      mode_again m (number_text file 10 ++ text),
+      number_again 10 file text (omega arith) h,
+    ) refl
 line_again (entries.Move (moves.Pre serial)) text h = rw (number_again 10 serial text (omega arith) h) refl
 line_again (entries.Move (moves.Skip serial)) text h = rw (number_again 10 serial text (omega arith) h) refl
 line_again (entries.Move (moves.Lower serial)) text h = rw (number_again 10 serial text (omega arith) h) refl

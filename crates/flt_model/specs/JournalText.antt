@@ -1,10 +1,10 @@
 -- Journals and their spelling. This project's own format.
-use Rattle.std.specs.Prelude.{◌≡◌, ℕ, suc, ◌<◌, ◌≤◌, ◌^◌, ◌≢◌, ◌⊎◌, ◌==◌, if◌then◌else◌}
+use Rattle.std.specs.Prelude.{◌≡◌, ℕ, suc, ◌+◌, ◌<◌, ◌≤◌, ◌^◌, ◌≢◌, ◌⊎◌, ◌==◌, max, if◌then◌else◌}
 use Rattle.std.specs.Prelude.{Bool, true, false, List, [], ◌∷◌, ◌++◌, length, codes}
 use Rattle.std.specs.List.{flat_map, AllByRecursion}
 use Rattle.std.specs.Fmt.{decimal}
+use Rattle.flt_rules.specs.Place.{all_operations, operation_name}
 use Rattle.flt_rules.specs.declared.place.Operation.{Operation}
-use Rattle.flt_rules.specs.declared.place.Operation.TheVariants.{Create, Read, Write, Cleanup}
 use Rattle.flt_rules.specs.declared.place.Mode.{Mode}
 use Rattle.flt_rules.specs.declared.place.Mode.TheVariants.{Irp, Fast}
 use Rattle.flt_model.specs.Streams.{Text}
@@ -68,10 +68,19 @@ number_text n end = decimal n ++ end ∷ []
 
 -- an operation, then a blank
 abbrev pub operation_text : Operation → Text
-operation_text Create = codes "create "
-operation_text Read = codes "read "
-operation_text Write = codes "write "
-operation_text Cleanup = codes "cleanup "
+operation_text kind = operation_name kind ++ codes " "
+
+-- the bytes of the longest of these texts, and of all
+abbrev pub longest_of : List Operation → ℕ
+longest_of [] = 0
+longest_of (kind ∷ kinds) = max (length (operation_text kind)) (longest_of kinds)
+
+abbrev pub longest_operation : ℕ
+longest_operation = longest_of all_operations
+
+-- the bytes of the longest line of a move behind its first one: that of an unlink with a file, or of an arrival
+abbrev pub longest_move : ℕ
+longest_move = max 35 (22 + longest_operation)
 
 -- a mode, then a blank
 abbrev pub mode_text : Mode → Text

@@ -1,14 +1,15 @@
 -- Reading a journal byte by byte, up to the first malformed byte.
-use Rattle.std.specs.Prelude.{◌≡◌, ◌≢◌, ◌≤◌, ℕ, zero, suc, ◌+◌, ◌-◌, ◌*◌, ◌^◌, Bool, true, false, ◌&&◌, ◌==◌, nat_lt}
-use Rattle.std.specs.Prelude.{if◌then◌else◌, [], ◌∷◌, ◌++◌, length, drop, codes, Option, Some, None, Result, Ok, Err}
+use Rattle.std.specs.Prelude.{◌≡◌, ◌≢◌, ◌≤◌, ℕ, zero, suc, ◌+◌, ◌-◌, ◌*◌, ◌^◌, Bool, true, false, ◌&&◌, ◌==◌, nat_eq, nat_lt}
+use Rattle.std.specs.Prelude.{if◌then◌else◌, [], ◌∷◌, ◌++◌, length, drop, codes, find, Option, Some, None, Result, Ok, Err}
+use Rattle.std.specs.List.{starts_with}
 use Rattle.flt_rules.specs.Parsing as parsing
+use Rattle.flt_rules.specs.Place.{all_operations}
 pub use Rattle.flt_rules.specs.Parsing.{and_then, ◌>>=◌, ◌>>◌, pure}
 use Rattle.flt_rules.specs.declared.place.Operation.{Operation}
-use Rattle.flt_rules.specs.declared.place.Operation.TheVariants.{Create, Read, Write, Cleanup}
 use Rattle.flt_rules.specs.declared.place.Mode.{Mode}
 use Rattle.flt_rules.specs.declared.place.Mode.TheVariants.{Irp, Fast}
 use Rattle.flt_model.specs.Streams.{Text}
-use Rattle.flt_model.specs.JournalText.{Entries, first_line, last_line, most_entries, IsFirstFault}
+use Rattle.flt_model.specs.JournalText.{Entries, first_line, last_line, most_entries, IsFirstFault, operation_text}
 use Rattle.flt_model.specs.declared.moves.JournalEntry.{JournalEntry}
 use Rattle.flt_model.specs.declared.moves.JournalEntry.TheVariants as entries
 use Rattle.flt_model.specs.declared.moves.Key.{Key}
@@ -69,15 +70,26 @@ IsNumberIn end bytes n count =
 
 -- ---- what stands in a line
 
--- an operation, and the blank behind it
+-- the first operation whose text, its name and a blank, begins with these bytes
+abbrev pub begun : Text → Option Operation
+begun front = find (λ kind. starts_with nat_eq (operation_text kind) front) all_operations
+
+-- an operation, and the blank behind it, of which these bytes have been read: byte by byte, while one begins so
+abbrev pub operation_from : Text → Parser Operation
+operation_from front [] = Err []
+operation_from front (b ∷ text) = by (begun (front ++ b ∷ [])) (operation_from (front ++ b ∷ []) text)
+  where
+    by : Option Operation → Outcome Operation → Outcome Operation
+    by None more = Err text
+    by (Some kind) more = if length (operation_text kind) == length front + 1 then Ok (kind, text) else more
+
 unfoldable pub operation : Parser Operation
-operation = byte >>= λ b.
-    if b == 114 then exactly (codes "ead ") >> pure Read
-    else (if b == 119 then exactly (codes "rite ") >> pure Write
-    else (if b == 99 then (byte >>= λ b.
-    if b == 114 then exactly (codes "eate ") >> pure Create
-    else (if b == 108 then exactly (codes "eanup ") >> pure Cleanup else wrong))
-    else wrong))
+operation = operation_from []
+
+-- so many of these bytes, whatever comes behind them, are an operation and the blank behind it
+abbrev pub IsOperationIn : Text → Operation → ℕ → Type 0
+IsOperationIn bytes kind count =
+    (count ≤ length bytes) × ((left : Text) → operation (bytes ++ left) ≡ Ok (kind, drop count (bytes ++ left)))
 
 -- a mode, and the blank behind it
 unfoldable pub mode : Parser Mode

@@ -3,10 +3,10 @@
 use Rattle.std.specs.Prelude.{ℕ, ◌+◌, Bool, true, false, not, ◌&&◌, ◌||◌, ◌==◌, nat_lt, if◌then◌else◌}
 use Rattle.std.specs.Prelude.{List, [], ◌∷◌, ◌++◌, length, Option, Some, None, set, find}
 use Rattle.std.specs.List.{list_any, before_first, after_first}
+use Rattle.flt_rules.specs.Place.{fits_mode}
 use Rattle.flt_rules.specs.declared.place.Mode.{Mode}
 use Rattle.flt_rules.specs.declared.place.Mode.TheVariants.{Fast}
 use Rattle.flt_rules.specs.declared.place.Operation.{Operation}
-use Rattle.flt_rules.specs.declared.place.Operation.TheVariants.{Create, Cleanup}
 use Rattle.flt_rules.specs.declared.place.Place.TheVariants as place
 use Rattle.flt_rules.specs.declared.place.Stage.TheVariants as stage
 use Rattle.flt_rules.specs.declared.status.FinalStatus.TheVariants.{Success}
@@ -54,12 +54,6 @@ abbrev pub with_visit : Store → Visit → Store
 with_visit s visit = record s { visits = s.visits ++ visit ∷ []; settled = s.settled ++ false ∷ [] }
 
 -- ---- operations arrive, go down and up, and are cancelled
-
--- create and cleanup are I/O request packets
-abbrev pub fits_mode : Operation → Mode → Bool
-fits_mode Create Fast = false
-fits_mode Cleanup Fast = false
-fits_mode kind mode = true
 
 -- one more operation, at the highest filter
 abbrev pub with_arrival : Store → Arrival → Store

@@ -2,6 +2,7 @@
 //! against which everything else of this project is checked.
 #![tactic(auto)]
 
+pub mod effects;
 mod event;
 mod fault;
 mod journal;
@@ -31,7 +32,7 @@ pub use laws::{
     locks_stay_exclusive, one_first_fault_at_most,
 };
 pub use line_parts::{read_move, read_number};
-pub use moves::{JournalEntry, Key, Move, fits_mode};
+pub use moves::{JournalEntry, Key, Move};
 pub use parts::{Arrival, Entry, Holder, Item, Link, Outcome, Position, Presence};
 pub use program::{filters_have_places, first_repeated};
 pub use reader::read;

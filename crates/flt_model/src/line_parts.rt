@@ -19,7 +19,7 @@ pub fn read_move<R: Source>(reader: &mut R, first: u8) -> Result<Move, Stop>
     ensures read { (made : Move) → format.IsMove made → (behind : Text) →
         first ∷ R.coming reader.old ≡ format.move_line made ++ behind → spec.IsReadAs made behind result (R.coming reader.new) }
     ensures fails { Counts result (R.failures reader.old) (R.failures reader.new) }
-    ensures reads { R.reads reader.new ≤ R.reads reader.old + 35 }
+    ensures reads { R.reads reader.new ≤ R.reads reader.old + format.longest_move }
 {
     move_by(reader, first)
 }

@@ -1,6 +1,9 @@
 //! The lines of a journal, read byte by byte.
 
-ghost use Rattle.std.specs.Prelude.{◌≡◌, ◌≤◌, ◌+◌, length};
+ghost use Rattle.std.specs.List.{starts_with};
+ghost use Rattle.std.specs.Prelude.{◌≡◌, ◌≤◌, ◌+◌, ◌∷◌, ◌++◌, [], length, nat_eq, find, IfSome};
+ghost use Rattle.flt_rules.specs.Place.{all_operations};
+ghost use Rattle.flt_model.specs.JournalText.{operation_text, longest_operation, longest_move};
 ghost use Rattle.flt_model.specs.JournalTextReading as spec;
 
 use crate::moves::{JournalEntry, Key, Move};
@@ -8,33 +11,94 @@ use crate::scanner::{Stop, byte, exactly, number};
 use crate::streams::Source;
 use flt_rules::{Mode, Operation};
 
+/// Whether an operation's name and a blank begin with some bytes and another one.
+fn begins(operation: Operation, front: &[u8], next: u8) -> bool
+    ensures { result ≡ starts_with nat_eq (operation_text operation) (front.now ++ next ∷ []) }
+{
+    match operation.name().as_bytes().strip_prefix(front) {
+        Some([byte, ..]) => next == *byte,
+        Some([]) => next == b' ',
+        None => false,
+    }
+}
+
+/// The first operation whose name and a blank begin with some bytes and another one.
+fn begun(front: &[u8], next: u8) -> Option<Operation>
+    ensures { result ≡ spec.begun (front.now ++ next ∷ []) }
+{
+    Operation::all()
+        .iter()
+        .copied()
+        .find(|operation| begins(*operation, front, next))
+}
+
+/// An operation and the blank after it, byte by byte.
+#[cold]
+#[inline(never)]
 #[tactic(auto, unfolding(crate::specs::JournalTextReading::operation))]
+fn operation_by_bytes<R: Source>(reader: &mut R) -> Result<Operation, Stop>
+    ensures read { spec.Reads (spec.operation (R.coming reader.old)) result (R.coming reader.new) }
+    ensures fails { spec.Counts result (R.failures reader.old) (R.failures reader.new) }
+    ensures reads { R.reads reader.new ≤ R.reads reader.old + longest_operation }
+{
+    let mut front: &[u8] = &[];
+    loop {
+        let next = byte(reader)?;
+        let Some(operation) = begun(front, next) else {
+            return Err(Stop::Wrong);
+        };
+        let name = operation.name().as_bytes();
+        if front.len() == name.len() {
+            return Ok(operation);
+        }
+        front = &name[..front.len() + 1];
+    }
+}
+
+/// Whether some bytes begin with an operation's name and a blank.
+#[inline(always)]
+fn is_spelled(operation: Operation, bytes: &[u8]) -> bool
+    ensures { result ≡ starts_with nat_eq bytes.now (operation_text operation) }
+{
+    matches!(
+        bytes.strip_prefix(operation.name().as_bytes()),
+        Some([b' ', ..])
+    )
+}
+
+/// The operation with whose name and a blank some bytes begin.
+#[inline(always)]
+fn spelled(bytes: &[u8]) -> Option<Operation>
+    ensures { result ≡ find (λ kind. starts_with nat_eq bytes.now (operation_text kind)) all_operations }
+{
+    Operation::all()
+        .iter()
+        .copied()
+        .find(|operation| is_spelled(*operation, bytes))
+}
+
+/// This operation, and the number of bytes of its name and the blank. None if they are cut off or malformed.
+#[inline(always)]
+fn operation_in(bytes: &[u8]) -> Option<(Operation, usize)>
+    ensures { IfSome result (λ q. spec.IsOperationIn bytes.now q.0 q.1) }
+{
+    let operation = spelled(bytes)?;
+    Some((operation, operation.name().len() + 1))
+}
+
+/// The same, from the bytes at hand if they suffice.
+#[inline(always)]
 fn operation<R: Source>(reader: &mut R) -> Result<Operation, Stop>
     ensures read { spec.Reads (spec.operation (R.coming reader.old)) result (R.coming reader.new) }
     ensures fails { spec.Counts result (R.failures reader.old) (R.failures reader.new) }
-    ensures reads { R.reads reader.new ≤ R.reads reader.old + 8 }
+    ensures reads { R.reads reader.new ≤ R.reads reader.old + longest_operation }
 {
-    match byte(reader)? {
-        b'r' => {
-            exactly(reader, b"ead ")?;
-            Ok(Operation::Read)
+    match operation_in(reader.ready()) {
+        Some((operation, length)) => {
+            reader.pass(length);
+            Ok(operation)
         }
-        b'w' => {
-            exactly(reader, b"rite ")?;
-            Ok(Operation::Write)
-        }
-        b'c' => match byte(reader)? {
-            b'r' => {
-                exactly(reader, b"eate ")?;
-                Ok(Operation::Create)
-            }
-            b'l' => {
-                exactly(reader, b"eanup ")?;
-                Ok(Operation::Cleanup)
-            }
-            _ => Err(Stop::Wrong),
-        },
-        _ => Err(Stop::Wrong),
+        None => operation_by_bytes(reader),
     }
 }
 
@@ -127,7 +191,7 @@ fn twice_numbered<R: Source>(reader: &mut R, word: &[u8]) -> Result<(u32, u32), 
 fn arrive<R: Source>(reader: &mut R) -> Result<Move, Stop>
     ensures read { spec.Reads (spec.arrive (R.coming reader.old)) result (R.coming reader.new) }
     ensures fails { spec.Counts result (R.failures reader.old) (R.failures reader.new) }
-    ensures reads { R.reads reader.new ≤ R.reads reader.old + 30 }
+    ensures reads { R.reads reader.new ≤ R.reads reader.old + (22 + longest_operation) }
 {
     exactly(reader, b"rrive ")?;
     let operation = operation(reader)?;
@@ -250,7 +314,7 @@ fn go<R: Source>(reader: &mut R) -> Result<JournalEntry, Stop>
 pub(crate) fn move_by<R: Source>(reader: &mut R, first: u8) -> Result<Move, Stop>
     ensures read { spec.Reads (spec.move_by first (R.coming reader.old)) result (R.coming reader.new) }
     ensures fails { spec.Counts result (R.failures reader.old) (R.failures reader.new) }
-    ensures reads { R.reads reader.new ≤ R.reads reader.old + 35 }
+    ensures reads { R.reads reader.new ≤ R.reads reader.old + longest_move }
 {
     match first {
         b'a' => arrive(reader),
@@ -279,7 +343,7 @@ pub(crate) fn move_by<R: Source>(reader: &mut R, first: u8) -> Result<Move, Stop
 pub(crate) fn line<R: Source>(reader: &mut R) -> Result<Option<JournalEntry>, Stop>
     ensures read { spec.Reads (spec.line (R.coming reader.old)) result (R.coming reader.new) }
     ensures fails { spec.Counts result (R.failures reader.old) (R.failures reader.new) }
-    ensures reads { R.reads reader.new ≤ R.reads reader.old + 36 }
+    ensures reads { R.reads reader.new ≤ R.reads reader.old + (longest_move + 1) }
 {
     match byte(reader)? {
         b'e' => {

@@ -3,20 +3,7 @@
 //! Operations, activations and work items are named by their serial number, from 0 in the order in which they came, filters
 //! by their altitude, files by a number of the script's own.
 
-ghost use Rattle.std.specs.Prelude.{◌≡◌};
-ghost use Rattle.flt_model.specs.Moves as spec;
-
 use flt_rules::{Mode, Operation};
-
-/// Whether an operation of the kind can come in by this mode: create and cleanup are I/O request packets.
-pub fn fits_mode(kind: Operation, mode: Mode) -> bool
-    ensures { result ≡ spec.fits_mode kind mode }
-{
-    match (kind, mode) {
-        (Operation::Create | Operation::Cleanup, Mode::Fast) => false,
-        _ => true,
-    }
-}
 
 /// The object to which a context is linked.
 #[derive(Clone, Copy, PartialEq, Eq)]

@@ -1,6 +1,6 @@
 //! Journals from their text.
 
-ghost use Rattle.std.specs.Prelude.{◌≡◌, ◌<◌, ◌≤◌, ◌+◌, [], length, IfOk, OnOk, MatchResult};
+ghost use Rattle.std.specs.Prelude.{◌≡◌, ◌<◌, ◌≤◌, ◌+◌, ◌*◌, [], length, IfOk, OnOk, MatchResult};
 ghost use Rattle.flt_model.specs.JournalText.{most_entries};
 ghost use Rattle.flt_model.specs.JournalText as format;
 ghost use Rattle.flt_model.specs.JournalTextReading as spec;
@@ -50,7 +50,7 @@ fn ending<R: Source>(reader: &mut R, found: Journal) -> Result<Journal, JournalF
 fn entries<R: Source>(alloc: Global, reader: &mut R) -> Result<Journal, JournalFault>
     ensures read { spec.ReadsAll (spec.entries_from most_entries [] (R.coming reader.old)) result (R.coming reader.new) }
     ensures fails { spec.CountsAll result (R.failures reader.old) (R.failures reader.new) }
-    ensures reads { R.reads reader.new ≤ R.reads reader.old + 36000005 }
+    ensures reads { R.reads reader.new ≤ R.reads reader.old + (max_entries * (format.longest_move + 1) + 5) }
 {
     let mut heap = Heap::new(alloc);
     let mut found = Journal::new(alloc);
@@ -69,7 +69,7 @@ fn entries<R: Source>(alloc: Global, reader: &mut R) -> Result<Journal, JournalF
 fn journal<R: Source>(alloc: Global, reader: &mut R) -> Result<Journal, JournalFault>
     ensures read { spec.ReadsAll (spec.journal (R.coming reader.old)) result (R.coming reader.new) }
     ensures fails { spec.CountsAll result (R.failures reader.old) (R.failures reader.new) }
-    ensures reads { R.reads reader.new ≤ R.reads reader.old + 36000018 }
+    ensures reads { R.reads reader.new ≤ R.reads reader.old + (max_entries * (format.longest_move + 1) + 18) }
 {
     match exactly(reader, FIRST_LINE) {
         Ok(()) => entries(alloc, reader),

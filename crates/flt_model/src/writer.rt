@@ -76,17 +76,6 @@ fn put_named<W: Sink>(writer: &mut W, word: &[u8], number: u32, end: u8) -> Resu
     put_number(writer, number, end)
 }
 
-fn operation_text(operation: Operation) -> &'static [u8]
-    ensures { result.now ≡ spec.operation_text operation }
-{
-    match operation {
-        Operation::Create => b"create ",
-        Operation::Read => b"read ",
-        Operation::Write => b"write ",
-        Operation::Cleanup => b"cleanup ",
-    }
-}
-
 fn mode_text(mode: Mode) -> &'static [u8]
     ensures { result.now ≡ spec.mode_text mode }
 {
@@ -102,6 +91,17 @@ fn grant_text(grant: bool) -> &'static [u8]
     if grant { b"yes\n" } else { b"no\n" }
 }
 
+/// Writes an operation and a blank.
+#[tactic(auto, using(crate::proofs::WritingSteps::two_parts))]
+fn put_operation<W: Sink>(writer: &mut W, operation: Operation) -> Result<(), WriteFault>
+    ensures ok { OnOk result (Appends (W.taken writer.old) (W.taken writer.new) (spec.operation_text operation)) }
+    ensures fine { OnOk result (W.failures writer.new ≡ W.failures writer.old) }
+    ensures err { OnErr result (W.failures writer.new ≢ W.failures writer.old) }
+{
+    put_all(writer, operation.name().as_bytes())?;
+    put_all(writer, b" ")
+}
+
 #[tactic(auto, using(crate::proofs::WritingSteps::three_parts))]
 fn put_arrive<W: Sink>(
     writer: &mut W,
@@ -114,7 +114,7 @@ fn put_arrive<W: Sink>(
     ensures err { OnErr result (W.failures writer.new ≢ W.failures writer.old) }
 {
     put_all(writer, b"arrive ")?;
-    put_all(writer, operation_text(operation))?;
+    put_operation(writer, operation)?;
     put_named(writer, mode_text(mode), file, b'\n')
 }
 

@@ -53,8 +53,7 @@ use Rattle.flt_syntax.specs.WordFails as word_fails
 use Rattle.flt_syntax.specs.WordFails.{Refused, Unknown, NextFails, MeantFails, KnownFails, NameFails, NumberFails}
 use Rattle.flt_syntax.specs.WordFails.{ContextFails, OtherFails, OptionalFails, OtherOldFails}
 use Rattle.flt_syntax.specs.CallFails as call_fails
-use Rattle.flt_syntax.specs.CallFails.{StatusFails, OptionalStatusFails, LockFails, SlotFails}
-use Rattle.flt_syntax.specs.CallFails.{SlotsFail, TailFails, FallibleFails, PlainFails}
+use Rattle.flt_syntax.specs.CallFails.{StatusFails, OptionalStatusFails, LockFails, SlotFails, SlotsFail, TailFails, FallibleFails, PlainFails}
 use Rattle.flt_syntax.specs.ActionFails as bad
 use Rattle.flt_syntax.specs.ActionFails.{AtomFails, LeadingFails, ExpressionFails, ActionFails, ConditionFails}
 use Rattle.flt_syntax.specs.StatementFails as statement_fails

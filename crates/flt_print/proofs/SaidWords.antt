@@ -1,19 +1,21 @@
 -- The words of the tables are read as what they stand for.
-use Rattle.std.proofs.Common.{◌≡◌, true, [], ◌∷◌, refl}
-use Rattle.std.specs.Prelude.{Some}
+use Rattle.std.proofs.Common.{◌≡◌, Bool, true, false, [], ◌∷◌, refl, ap}
+use Rattle.std.specs.Prelude.{Option, Some, None}
+use Rattle.flt_rules.proofs.Operations.{of_each, same_is}
+use Rattle.flt_rules.specs.Place.{same_operation}
 use Rattle.flt_rules.specs.declared.call.Anchor.TheVariants.{Stream, Instance}
 use Rattle.flt_rules.specs.declared.call.Existing.{Existing}
 use Rattle.flt_rules.specs.declared.call.Existing.TheVariants.{Keep, Replace}
 use Rattle.flt_rules.specs.declared.call.LockKind.{LockKind}
 use Rattle.flt_rules.specs.declared.call.LockKind.TheVariants.{Spin, Fast, Push}
 use Rattle.flt_rules.specs.declared.place.Operation.{Operation}
-use Rattle.flt_rules.specs.declared.place.Operation.TheVariants as operating
 use Rattle.flt_rules.specs.declared.status.FinalStatus.{FinalStatus}
 use Rattle.flt_rules.specs.declared.status.FinalStatus.TheVariants as finals
 use Rattle.flt_tree.specs.Names.{Text}
 use Rattle.flt_syntax.specs.Lex.{keyword, same_kind}
 use Rattle.flt_syntax.specs.Tables.{number_variable_of, context_variable_of, removed_variable_of, operation_variable_of}
-use Rattle.flt_syntax.specs.Tables.{final_status_of, operation_of, lock_kind_of, existing_of, fallible_shape_of, plain_shape_of}
+use Rattle.flt_syntax.specs.Operations.{operation_of}
+use Rattle.flt_syntax.specs.Tables.{final_status_of, lock_kind_of, existing_of, fallible_shape_of, plain_shape_of}
 use Rattle.flt_print.specs.Vocabulary.{spelling, number_kind, context_kind, removed_kind, operation_variable_kind}
 use Rattle.flt_print.specs.Vocabulary.{final_status_kind, operation_kind, lock_kind_kind, existing_kind, fallible_kind, plain_kind}
 use Rattle.flt_syntax.specs.Words.{Meant}
@@ -127,16 +129,18 @@ final_status_known finals.Pending = refl
 
 operation_reads : (x : Operation) → reads_back (operation_kind x) ≡ true
 unfolding spelling keyword same_kind
-operation_reads operating.Create = refl
-operation_reads operating.Read = refl
-operation_reads operating.Write = refl
-operation_reads operating.Cleanup = refl
+operation_reads = of_each (λ x. reads_back (operation_kind x)) refl
 
 operation_known : (x : Operation) → operation_of (operation_kind x) ≡ Some x
-operation_known operating.Create = refl
-operation_known operating.Read = refl
-operation_known operating.Write = refl
-operation_known operating.Cleanup = refl
+operation_known x = known x (operation_of (operation_kind x)) (of_each (λ o. is_known o (operation_of (operation_kind o))) refl x)
+  where
+    is_known : Operation → Option Operation → Bool
+    is_known x None = false
+    is_known x (Some o) = same_operation o x
+
+    known : (x : Operation) (found : Option Operation) → is_known x found ≡ true → found ≡ Some x
+    known x None h = absurd (cc)
+    known x (Some o) h = ap Some (same_is o x h)
 
 lock_kind_reads : (x : LockKind) → reads_back (lock_kind_kind x) ≡ true
 unfolding spelling keyword same_kind

@@ -6,12 +6,11 @@ use Rattle.flt_rules.specs.declared.call.Existing.{Existing}
 use Rattle.flt_rules.specs.declared.call.Existing.TheVariants.{Keep, Replace}
 use Rattle.flt_rules.specs.declared.call.LockKind.{LockKind}
 use Rattle.flt_rules.specs.declared.call.LockKind.TheVariants as locked
-use Rattle.flt_rules.specs.declared.place.Operation.{Operation}
-use Rattle.flt_rules.specs.declared.place.Operation.TheVariants as operating
 use Rattle.flt_rules.specs.declared.status.FinalStatus.{FinalStatus}
 use Rattle.flt_rules.specs.declared.status.FinalStatus.TheVariants as finals
 use Rattle.flt_tree.specs.Names.{Text}
 use Rattle.flt_syntax.specs.Lex.{word, keyword, same_kind}
+pub use Rattle.flt_syntax.specs.Operations.{operation_kind}
 use Rattle.flt_syntax.specs.Vocabulary.{vocabulary}
 use Rattle.flt_syntax.specs.declared.shape.ContextEnd.TheVariants as ends
 use Rattle.flt_syntax.specs.declared.shape.ContextSource.TheVariants as sources
@@ -111,13 +110,6 @@ final_status_kind finals.Cancelled = k.StatusCancelled
 final_status_kind finals.InsufficientResources = k.StatusInsufficientResources
 final_status_kind finals.InvalidParameter = k.StatusInvalidParameter
 final_status_kind finals.Pending = k.StatusPending
-
--- an operation that a callback is registered for
-abbrev pub operation_kind : Operation → Kind
-operation_kind operating.Create = k.Create
-operation_kind operating.Read = k.Read
-operation_kind operating.Write = k.Write
-operation_kind operating.Cleanup = k.Cleanup
 
 -- a kind of lock, where it is declared
 abbrev pub lock_kind_kind : LockKind → Kind

@@ -121,12 +121,7 @@ pub fn final_status_kind(status: FinalStatus) -> Kind
 pub fn operation_kind(operation: Operation) -> Kind
     ensures { result ≡ spec.operation_kind operation }
 {
-    match operation {
-        Operation::Create => Kind::Create,
-        Operation::Read => Kind::Read,
-        Operation::Write => Kind::Write,
-        Operation::Cleanup => Kind::Cleanup,
-    }
+    Kind::of_operation(operation)
 }
 
 /// The kind of a lock where it is declared.

@@ -5,6 +5,8 @@ ghost use Rattle.flt_model.specs.LocalSteps.{turns_left};
 ghost use Rattle.flt_replay_records.specs.Kept.{contents};
 ghost use Rattle.flt_replay_records.specs.Rest.{statement_of, before, remains, others, IsTurn};
 ghost use Rattle.flt_replay_records.specs.declared.rest.Part.{Part};
+ghost use Rattle.flt_tree.specs.Filter.{span_of};
+ghost use Rattle.flt_tree.specs.declared.filter.Statement.{out-Statement};
 
 use crate::kept::ActivationRest;
 use flt_tree::{Span, Statement};
@@ -25,6 +27,18 @@ pub enum Upcoming<'a> {
     Statement(&'a Statement),
     /// Its place, the turns that are left, and its body.
     Repeat(&'a Span, u64, &'a [Statement]),
+}
+
+impl Upcoming<'_> {
+    /// Its place in the text.
+    pub fn span(&self) -> Span
+        ensures { result ≡ span_of (out-Statement (statement_of self.now)) }
+    {
+        match self {
+            Upcoming::Statement(statement) => statement.span(),
+            Upcoming::Repeat(span, _, _) => **span,
+        }
+    }
 }
 
 /// The two innermost blocks of a callback. The blocks round these are kept apart, since most callbacks are in two at most.

@@ -9,10 +9,10 @@ ghost use Rattle.flt_model.specs.World as spec;
 ghost use Rattle.flt_replay_world.specs.Happening.{later, Happened};
 ghost use Rattle.flt_tree.specs.declared.variable.OperationVariable.TheVariants.{Data};
 
-use crate::effects::{context, need, need_one, operation};
+use flt_model::effects::{context, need, need_one, operation};
 use flt_model::{Event, Key, Link, Object};
 use flt_replay_records::Write;
-use flt_replay_world::{World, push_event};
+use flt_replay_world::{UncountedHeap, World, push_event};
 use flt_rules::{Anchor, Call, Existing};
 use flt_tree::{ContextVariable, OperationVariable, Statement};
 use std::alloc::AllocError;
@@ -71,7 +71,7 @@ fn need_anchor(
     match on {
         Anchor::Stream => {
             let given = world.operation_in(a, OperationVariable::Data);
-            need_one(a, operation(given), events)
+            need_one(&mut UncountedHeap, a, operation(given), events)
         }
         Anchor::Instance => Ok(()),
     }
@@ -293,9 +293,14 @@ fn need_to_set(
     match on {
         Anchor::Stream => {
             let given = world.operation_in(a, OperationVariable::Data);
-            need(a, &[context(x), operation(given)], events)
+            need(
+                &mut UncountedHeap,
+                a,
+                &[context(x), operation(given)],
+                events,
+            )
         }
-        Anchor::Instance => need_one(a, context(x), events),
+        Anchor::Instance => need_one(&mut UncountedHeap, a, context(x), events),
     }
 }
 
@@ -407,7 +412,7 @@ pub(crate) fn delete(
 {
     let x = world.context_in(a, c);
     push_event(events, Event::Call(a, Call::DeleteContext))?;
-    need_one(a, context(x), events)?;
+    need_one(&mut UncountedHeap, a, context(x), events)?;
     deleted(world, a, x, events)
 }
 
@@ -444,7 +449,7 @@ pub(crate) fn reference(
 {
     let x = world.context_in(a, c);
     push_event(events, Event::Call(a, Call::ReferenceContext))?;
-    need_one(a, context(x), events)?;
+    need_one(&mut UncountedHeap, a, context(x), events)?;
     referenced(world, a, d, x, events)
 }
 
@@ -475,6 +480,6 @@ pub(crate) fn release(
 {
     let x = world.context_in(a, c);
     push_event(events, Event::Call(a, Call::ReleaseContext))?;
-    need_one(a, context(x), events)?;
+    need_one(&mut UncountedHeap, a, context(x), events)?;
     released(world, a, x, events)
 }

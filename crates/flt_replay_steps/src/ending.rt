@@ -10,10 +10,10 @@ ghost use Rattle.flt_model.specs.World as machine;
 ghost use Rattle.flt_replay_world.specs.Happening.{holds_given, Happened};
 ghost use Rattle.flt_tree.specs.Filter.{named_context};
 
-use crate::effects::{context, lose_context, need_one};
 use crate::settling::{makes_frame, settled_by, way_of};
+use flt_model::effects::{context, lose_context, need_one};
 use flt_model::{Answer, Event, Object, Way};
-use flt_replay_world::{Stack, World, push_event};
+use flt_replay_world::{Stack, UncountedHeap, World, push_event};
 use flt_tree::{OperationVariable, Status, named_context};
 use std::alloc::AllocError;
 
@@ -72,7 +72,7 @@ fn use_context(
     ensures { OnOk result (events.new.items ≡ events.old.items ++ spec.context_used [] [] world.now a status) }
 {
     match world.named_in(a, named_context(status)) {
-        Some(x) => need_one(a, context(x), events),
+        Some(x) => need_one(&mut UncountedHeap, a, context(x), events),
         None => Ok(()),
     }
 }
@@ -107,7 +107,7 @@ fn give_visit_back(
         push_event(events, Event::Lose(a, Object::Visit(given.visit)))?;
     }
     if makes_frame(world, given.visit, way) {
-        lose_context(a, context, events)?;
+        lose_context(&mut UncountedHeap, a, context, events)?;
     }
     if way.settles_visit() {
         push_event(events, Event::Settle(given.visit))?;

@@ -1,7 +1,7 @@
 //! The steps of activations and the moves of the system in the monitor's world: each is the machine's own, with its events.
 //!
 //! Steps: `board` finds the step of the first statement or of the end of the body. `reads` are those that are no calls, `contexts`,
-//! `queueing`, `locking` and `settling` the calls, `ending` the end with its status; `effects` are events that many of them have.
+//! `queueing`, `locking` and `settling` the calls, and `ending` the end with its status.
 //!
 //! Moves of the filter manager and of worker threads: `moves` has operations that arrive, go down and up, and are cancelled; `waiting` has
 //! queue entries and work items that are taken out, `teardown` filters that are detached, and `starting` the callbacks that they start.
@@ -9,7 +9,6 @@
 
 mod board;
 mod contexts;
-mod effects;
 mod ending;
 mod locking;
 mod moves;

@@ -9,7 +9,7 @@ ghost use Rattle.flt_replay_world.specs.Happening.{ComesOf};
 
 use crate::starting::{start_post, start_pre};
 use crate::{teardown, waiting};
-use flt_model::{Arrival, Event, Move, Outcome, Position, fits_mode};
+use flt_model::{Arrival, Event, Move, Outcome, Position};
 use flt_replay_records::{Frame, Route};
 use flt_replay_world::{Stack, World};
 use flt_rules::{FinalStatus, Mode, Operation};
@@ -42,7 +42,7 @@ fn arrive(
     ensures { IfOk result (λ enabled. (earlier : List Event) →
         ComesOf (moves.arrive world.old kind mode file) enabled world.new earlier earlier) }
 {
-    if fits_mode(kind, mode) && file < 1024 {
+    if kind.fits(mode) && file < 1024 {
         add_operation(world, alloc, Arrival { kind, mode, file })?;
         Ok(true)
     } else {

@@ -2,7 +2,6 @@
 
 ghost use Rattle.std.specs.Prelude.{◌≡◌, ◌∷◌, ◌++◌, OnOk};
 ghost use Rattle.flt_model.specs.Calls as calls;
-ghost use Rattle.flt_model.specs.Effects as effects;
 ghost use Rattle.flt_model.specs.Variables as variables;
 ghost use Rattle.flt_model.specs.World as spec;
 ghost use Rattle.flt_replay_steps.specs.Queueing.{gives_entry};
@@ -10,28 +9,13 @@ ghost use Rattle.flt_replay_world.specs.Happening.{later, Happened};
 ghost use Rattle.flt_tree.specs.declared.variable.OperationVariable.TheVariants.{Data};
 
 use crate::contexts::Branches;
-use crate::effects::{CallOperands, context, gain_context, lose_context, need_named, need_one};
+use flt_model::effects::{CallOperands, gain_context, lose_context, need_named, need_optional};
 use flt_model::{Entry, Event, Item, Object};
 use flt_replay_records::Write;
-use flt_replay_world::{World, push_event};
+use flt_replay_world::{UncountedHeap, World, push_event};
 use flt_rules::Call;
 use flt_tree::{ContextVariable, OperationVariable, RemovedVariable, Statement};
 use std::alloc::AllocError;
-
-/// A context that a call need not have.
-fn need_optional(
-    a: usize,
-    named: Option<Option<usize>>,
-    events: &mut Vec<Event>,
-) -> Result<(), AllocError>
-    ensures { OnOk result (events.new.items ≡ events.old.items
-        ++ (effects.uses a (effects.optional named) ++ effects.empties a (effects.optional named))) }
-{
-    match named {
-        Some(named) => need_one(a, context(named), events),
-        None => Ok(()),
-    }
-}
 
 /// The operation and the context that a call with this variable hands over.
 fn handed(world: &World<'_>, a: usize, c: Option<ContextVariable>) -> CallOperands
@@ -64,7 +48,7 @@ fn enqueued<'a>(
         world.go_on(a, to.granted, Write::Nothing)?;
         world.add_entry(filter, Entry { visit, context })?;
         push_event(events, Event::Lose(a, Object::Visit(visit)))?;
-        lose_context(a, context, events)
+        lose_context(&mut UncountedHeap, a, context, events)
     } else {
         world.go_on(a, to.refused, Write::Nothing)
     }
@@ -103,7 +87,7 @@ pub(crate) fn insert<'a>(
 {
     let handed = handed(world, a, c);
     push_event(events, Event::Call(a, Call::InsertIo))?;
-    need_named(a, handed, events)?;
+    need_named(&mut UncountedHeap, a, handed, events)?;
     insert_by(world, a, handed, to, events)
 }
 
@@ -127,7 +111,7 @@ fn give_entry<'a>(
     let context = entry.context;
     world.go_on(a, block, Write::Entry(o, d, Some(visit), context))?;
     push_event(events, Event::Gain(a, Object::Visit(visit)))?;
-    gain_context(a, context, events)
+    gain_context(&mut UncountedHeap, a, context, events)
 }
 
 pub(crate) fn remove_next<'a>(
@@ -172,7 +156,7 @@ fn deferred<'a>(
         context,
     })?;
     push_event(events, Event::Lose(a, Object::Visit(visit)))?;
-    lose_context(a, context, events)
+    lose_context(&mut UncountedHeap, a, context, events)
 }
 
 /// Nothing is queued if the operation or the named context is NULL, or the system refuses.
@@ -215,7 +199,7 @@ pub(crate) fn queue_deferred<'a>(
 {
     let handed = handed(world, a, c);
     push_event(events, Event::Call(a, Call::QueueDeferredIoWorkItem))?;
-    need_named(a, handed, events)?;
+    need_named(&mut UncountedHeap, a, handed, events)?;
     defer_by(world, a, routine, grant, handed, to, events)
 }
 
@@ -239,7 +223,7 @@ fn queued<'a>(
         visit: None,
         context,
     })?;
-    lose_context(a, context, events)
+    lose_context(&mut UncountedHeap, a, context, events)
 }
 
 /// Nothing is queued if the named context is NULL, or the system refuses.
@@ -280,6 +264,6 @@ pub(crate) fn queue_generic<'a>(
 {
     let named = world.named_in(a, c);
     push_event(events, Event::Call(a, Call::QueueGenericWorkItem))?;
-    need_optional(a, named, events)?;
+    need_optional(&mut UncountedHeap, a, named, events)?;
     queue_by(world, a, routine, grant, named, to, events)
 }

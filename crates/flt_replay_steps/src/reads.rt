@@ -6,10 +6,10 @@ ghost use Rattle.flt_model.specs.Reads as spec;
 ghost use Rattle.flt_replay_world.specs.Happening.{later, Happened};
 
 use crate::contexts::Branches;
-use crate::effects::{context, need_one, operation};
 use flt_model::Event;
+use flt_model::effects::{context, need_one, operation};
 use flt_replay_records::Write;
-use flt_replay_world::World;
+use flt_replay_world::{UncountedHeap, World};
 use flt_tree::{Atom, ContextVariable, NumberVariable, OperationVariable};
 use std::alloc::AllocError;
 
@@ -24,7 +24,7 @@ pub(crate) fn read_value(
     ensures { OnOk result (Happened world.new events.old.items events.new.items (spec.read_value world.old a n c (later world.old a))) }
 {
     let x = world.context_in(a, c);
-    need_one(a, context(x), events)?;
+    need_one(&mut UncountedHeap, a, context(x), events)?;
     match x {
         Some(x) => world.go_on(a, &[], Write::Number(n, world.value(x))),
         None => world.go_on(a, &[], Write::Nothing),
@@ -43,7 +43,7 @@ pub(crate) fn write_value(
         (spec.write_value world.old a c value (later world.old a))) }
 {
     let x = world.context_in(a, c);
-    need_one(a, context(x), events)?;
+    need_one(&mut UncountedHeap, a, context(x), events)?;
     if let Some(x) = x {
         world.set_value(x, world.atom_in(a, value))?;
     }
@@ -61,7 +61,7 @@ pub(crate) fn read_file(
     ensures { OnOk result (Happened world.new events.old.items events.new.items (spec.read_file world.old a n d (later world.old a))) }
 {
     let visit = world.operation_in(a, d);
-    need_one(a, operation(visit), events)?;
+    need_one(&mut UncountedHeap, a, operation(visit), events)?;
     match visit {
         Some(visit) => {
             let file = u64::from(world.file_of(visit));
@@ -82,7 +82,7 @@ pub(crate) fn test_irp<'a>(
         (spec.test_irp world.old a (to.entry.granted.now ++ later world.old a) (to.entry.refused.now ++ later world.old a))) }
 {
     let visit = world.operation_in(a, OperationVariable::Data);
-    need_one(a, operation(visit), events)?;
+    need_one(&mut UncountedHeap, a, operation(visit), events)?;
     match visit {
         Some(visit) if world.mode_of(visit).is_irp() => world.go_on(a, to.granted, Write::Nothing),
         _ => world.go_on(a, to.refused, Write::Nothing),

@@ -2,15 +2,14 @@
 
 ghost use Rattle.std.specs.Prelude.{◌≡◌, ◌+◌, ◌∷◌, ◌++◌, OnOk, IfOk};
 ghost use Rattle.flt_model.specs.Calls as calls;
-ghost use Rattle.flt_model.specs.Effects as effects;
 ghost use Rattle.flt_model.specs.Settling as spec;
 ghost use Rattle.flt_model.specs.declared.parts.Position.TheVariants.{Down};
 ghost use Rattle.flt_replay_world.specs.Happening.{later, Happened};
 
-use crate::effects::{CallOperands, lose_context, need_named, need_one, operation};
+use flt_model::effects::{CallOperands, lose_context, need_named, need_one, operation};
 use flt_model::{Answer, Event, Object, Position, Way};
 use flt_replay_records::{Frame, Route, Write};
-use flt_replay_world::{Stack, World, push_event};
+use flt_replay_world::{Stack, UncountedHeap, World, push_event};
 use flt_rules::{Call, Stage};
 use flt_tree::{OperationVariable, Status};
 use std::alloc::AllocError;
@@ -132,7 +131,7 @@ fn completed<'a>(
     let way = way_of(world, stack, visit, answer);
     push_event(events, Event::Lose(a, Object::Visit(visit)))?;
     if makes_frame(world, visit, way) {
-        lose_context(a, context, events)?;
+        lose_context(&mut UncountedHeap, a, context, events)?;
     }
     push_event(events, Event::Settle(visit))?;
     world.go_on(a, &[], Write::Nothing)?;
@@ -191,7 +190,7 @@ pub(crate) fn complete_pre<'a>(
             Event::Status(a, Answer::completes_pre(d, visit, status)),
         )?;
     }
-    need_named(a, named, events)?;
+    need_named(&mut UncountedHeap, a, named, events)?;
     complete_by(world, stack, a, d, status, named, events)
 }
 
@@ -229,6 +228,6 @@ pub(crate) fn complete_post<'a>(
     if let Some(visit) = given {
         push_event(events, Event::Status(a, Answer::CompletesPost { visit }))?;
     }
-    need_one(a, operation(given), events)?;
+    need_one(&mut UncountedHeap, a, operation(given), events)?;
     complete_post_by(world, stack, a, given, events)
 }

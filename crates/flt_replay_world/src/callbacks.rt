@@ -36,10 +36,9 @@ fn is_paired(callbacks: &[Callback], kind: Operation) -> bool
 pub(crate) fn are_paired(callbacks: &[Callback]) -> bool
     ensures { result ≡ spec.are_paired callbacks.now }
 {
-    is_paired(callbacks, Operation::Create)
-        && is_paired(callbacks, Operation::Read)
-        && is_paired(callbacks, Operation::Write)
-        && is_paired(callbacks, Operation::Cleanup)
+    Operation::all()
+        .iter()
+        .all(|kind| is_paired(callbacks, *kind))
 }
 
 /// The statements of the pre callback of an operation; none if it isn't there.

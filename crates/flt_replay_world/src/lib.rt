@@ -6,11 +6,13 @@
 
 mod callbacks;
 mod events;
+mod filters;
 mod opening;
 mod stack;
 mod unlinking;
 mod world;
 
-pub use events::push_event;
+pub use events::{UncountedHeap, push_event};
+pub use filters::filters_of;
 pub use stack::Stack;
 pub use world::World;

@@ -1,6 +1,6 @@
 -- Where a callback runs, and interrupt request levels: PASSIVE_LEVEL < APC_LEVEL < DISPATCH_LEVEL.
 -- Source: the driver kit's pages on pre- and postoperation callback routines, taken at their worst level.
-use Rattle.std.specs.Prelude.{ℕ, Bool, true, false, nat_lt, Option, Some, None}
+use Rattle.std.specs.Prelude.{ℕ, Bool, true, false, not, ◌==◌, nat_lt, List, [], ◌∷◌, ◌++◌, codes, filter, map, Option, Some, None}
 use Rattle.flt_rules.specs.declared.call.LockKind.{LockKind}
 use Rattle.flt_rules.specs.declared.call.LockKind.TheVariants.{Spin, Fast, Push}
 use Rattle.flt_rules.specs.declared.place.Level.{Level}
@@ -14,15 +14,81 @@ use Rattle.flt_rules.specs.declared.place.Place.TheVariants.{Pre, Post, Canceled
 use Rattle.flt_rules.specs.declared.place.Stage.{Stage}
 use Rattle.flt_rules.specs.declared.place.Stage.TheVariants as stage
 
--- ---- places
+-- ---- operations
 
--- whether two operations are of one kind
+-- all operations, in the order of their values
+abbrev pub all_operations : List Operation
+all_operations = op.Create ∷ op.Read ∷ op.Write ∷ op.Cleanup ∷ []
+
+-- an operation as texts, journals and reports have it
+abbrev pub operation_name : Operation → List ℕ
+operation_name op.Create = codes "create"
+operation_name op.Read = codes "read"
+operation_name op.Write = codes "write"
+operation_name op.Cleanup = codes "cleanup"
+
+-- an operation as the driver kit has it
+abbrev pub major_name : Operation → List ℕ
+major_name op.Create = codes "IRP_MJ_CREATE"
+major_name op.Read = codes "IRP_MJ_READ"
+major_name op.Write = codes "IRP_MJ_WRITE"
+major_name op.Cleanup = codes "IRP_MJ_CLEANUP"
+
+-- an operation as the names of a driver's routines have it
+abbrev pub operation_title : Operation → List ℕ
+operation_title op.Create = codes "Create"
+operation_title op.Read = codes "Read"
+operation_title op.Write = codes "Write"
+operation_title op.Cleanup = codes "Cleanup"
+
+-- an operation that comes as an I/O request packet alone; the others come as fast I/O, too
+abbrev pub is_always_irp : Operation → Bool
+is_always_irp op.Create = true
+is_always_irp op.Read = false
+is_always_irp op.Write = false
+is_always_irp op.Cleanup = true
+
+-- an operation's number in the list of all, from 0
+abbrev pub operation_number : Operation → ℕ
+operation_number op.Create = 0
+operation_number op.Read = 1
+operation_number op.Write = 2
+operation_number op.Cleanup = 3
+
+-- whether two operations are of one kind: those of one number
 abbrev pub same_operation : Operation → Operation → Bool
-same_operation op.Create op.Create = true
-same_operation op.Read op.Read = true
-same_operation op.Write op.Write = true
-same_operation op.Cleanup op.Cleanup = true
-same_operation _ _ = false
+same_operation a b = operation_number a == operation_number b
+
+-- whether an operation can come in by a mode
+abbrev pub fits_mode : Operation → Mode → Bool
+fits_mode kind mode.Irp = true
+fits_mode kind mode.Fast = not (is_always_irp kind)
+
+-- ---- operations in a sentence
+
+-- a word of a text
+abbrev pub quoted : List ℕ → List ℕ
+quoted word = codes "`" ++ word ++ codes "`"
+
+-- words of a text, with this before the last one and commas between the others
+abbrev pub listed : List ℕ → List (List ℕ) → List ℕ
+listed last [] = []
+listed last (word ∷ []) = quoted word
+listed last (word ∷ next ∷ []) = quoted word ++ last ++ quoted next
+listed last (word ∷ words) = quoted word ++ codes ", " ++ listed last words
+
+-- all operations, and one of them
+abbrev pub all_named : List ℕ
+all_named = listed (codes " and ") (map operation_name all_operations)
+
+abbrev pub any_named : List ℕ
+any_named = listed (codes " or ") (map operation_name all_operations)
+
+-- the operations that come as I/O request packets alone
+abbrev pub always_irp_named : List ℕ
+always_irp_named = listed (codes " and ") (map operation_name (filter is_always_irp all_operations))
+
+-- ---- places
 
 -- whether two modes are one
 abbrev pub same_mode : Mode → Mode → Bool

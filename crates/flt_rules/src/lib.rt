@@ -20,7 +20,7 @@ pub use limits::{
     MAX_ALTITUDE, MAX_CALLBACKS, MAX_COST, MAX_DEPTH, MAX_ENTRIES, MAX_FILTERS, MAX_LOCKS,
     MAX_OPERATIONS, MAX_POINTS, MAX_REPEATS, MAX_TEXT, MAX_TURNS,
 };
-pub use place::{Level, Mode, Operation, Place, Stage, entry_level, raised_by};
+pub use place::{Level, Mode, OPERATIONS, Operation, Place, Stage, entry_level, raised_by};
 pub use refusal::Refusal;
 pub use rule::{Rule, number, text};
 pub use status::{FinalStatus, Possession, StatusRow, StatusWord, status_row};

@@ -14,7 +14,28 @@ pub enum Operation {
     Cleanup,
 }
 
-/// How an operation came: as an I/O request packet or as fast I/O. Create and cleanup are always `Irp`.
+/// How many operations there are.
+pub const OPERATIONS: usize = 4;
+
+/// All operations, in the order of their values.
+const ALL: [Operation; OPERATIONS] = [
+    Operation::Create,
+    Operation::Read,
+    Operation::Write,
+    Operation::Cleanup,
+];
+
+/// Their names, in the same order.
+const NAMES: [&[u8]; OPERATIONS] = [b"create", b"read", b"write", b"cleanup"];
+
+const MAJOR_NAMES: [&[u8]; OPERATIONS] = [
+    b"IRP_MJ_CREATE",
+    b"IRP_MJ_READ",
+    b"IRP_MJ_WRITE",
+    b"IRP_MJ_CLEANUP",
+];
+
+/// How an operation came: as an I/O request packet or as fast I/O. `Operation::fits` says which operations come as fast I/O.
 #[derive(Clone, Copy, PartialEq, Eq)]
 pub enum Mode {
     Irp,
@@ -85,7 +106,116 @@ pub fn raised_by(kind: Option<LockKind>) -> Level
 }
 
 impl Operation {
-    ghost use Rattle.flt_rules.specs.Place.{same_operation};
+    ghost use Rattle.flt_rules.specs.Place.{all_operations, fits_mode, is_always_irp, major_name, operation_name, operation_number};
+    ghost use Rattle.std.specs.Prelude.{map};
+    ghost use Rattle.flt_rules.specs.Place.{all_named, always_irp_named, any_named, operation_title, same_operation};
+
+    /// All operations, in the order of their values.
+    pub fn all() -> &'static [Operation]
+        ensures { result.now ≡ all_operations }
+    {
+        &ALL
+    }
+
+    /// The names of all.
+    pub fn names() -> &'static [&'static [u8]]
+        ensures { map (λ name. name.now) result.now ≡ map operation_name all_operations }
+    {
+        &NAMES
+    }
+
+    /// The same as the driver kit has them.
+    pub fn major_names() -> &'static [&'static [u8]]
+        ensures { map (λ name. name.now) result.now ≡ map major_name all_operations }
+    {
+        &MAJOR_NAMES
+    }
+
+    /// All operations in a sentence.
+    pub fn all_named() -> &'static str
+        ensures { result.now ≡ all_named }
+    {
+        "`create`, `read`, `write` and `cleanup`"
+    }
+
+    /// One of all operations in a sentence.
+    pub fn any_named() -> &'static str
+        ensures { result.now ≡ any_named }
+    {
+        "`create`, `read`, `write` or `cleanup`"
+    }
+
+    /// The operations that come as I/O request packets alone, in a sentence.
+    pub fn always_irp_named() -> &'static str
+        ensures { result.now ≡ always_irp_named }
+    {
+        "`create` and `cleanup`"
+    }
+
+    /// The operation as texts, journals and reports have it.
+    pub fn name(self) -> &'static str
+        ensures { result.now ≡ operation_name self }
+    {
+        match self {
+            Operation::Create => "create",
+            Operation::Read => "read",
+            Operation::Write => "write",
+            Operation::Cleanup => "cleanup",
+        }
+    }
+
+    /// The operation as the driver kit has it.
+    pub fn major_name(self) -> &'static str
+        ensures { result.now ≡ major_name self }
+    {
+        match self {
+            Operation::Create => "IRP_MJ_CREATE",
+            Operation::Read => "IRP_MJ_READ",
+            Operation::Write => "IRP_MJ_WRITE",
+            Operation::Cleanup => "IRP_MJ_CLEANUP",
+        }
+    }
+
+    /// The operation as the names of a driver's routines have it.
+    pub fn title(self) -> &'static str
+        ensures { result.now ≡ operation_title self }
+    {
+        match self {
+            Operation::Create => "Create",
+            Operation::Read => "Read",
+            Operation::Write => "Write",
+            Operation::Cleanup => "Cleanup",
+        }
+    }
+
+    /// Whether it comes as an I/O request packet alone, never as fast I/O.
+    pub fn is_always_irp(self) -> bool
+        ensures { result ≡ is_always_irp self }
+    {
+        match self {
+            Operation::Create | Operation::Cleanup => true,
+            Operation::Read | Operation::Write => false,
+        }
+    }
+
+    /// Whether it can come in by a mode.
+    pub fn fits(self, mode: Mode) -> bool
+        ensures { result ≡ fits_mode self mode }
+    {
+        mode.is_irp() || !self.is_always_irp()
+    }
+
+    /// Its number in the list of all, from 0.
+    pub fn number(self) -> usize
+        ensures { result ≡ operation_number self }
+    {
+        match self {
+            Operation::Create => 0,
+            Operation::Read => 1,
+            Operation::Write => 2,
+            Operation::Cleanup => 3,
+        }
+    }
 
     /// Whether both are of one kind.
     pub fn is_same(self, other: Operation) -> bool

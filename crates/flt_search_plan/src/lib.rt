@@ -15,5 +15,4 @@ mod variables;
 
 pub use live::Live;
 pub use plan::Plan;
-pub use starting::KINDS;
 pub use variables::{CONTEXTS, NUMBERS, REMOVED};

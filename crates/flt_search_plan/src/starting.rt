@@ -1,16 +1,8 @@
 //! Which callbacks start which.
 
 use flt_graph::{Graph, Instruction};
-use flt_rules::{Call, MAX_CALLBACKS, Operation, Place};
+use flt_rules::{Call, MAX_CALLBACKS, OPERATIONS, Operation, Place};
 use std::alloc::{AllocError, Global};
-
-/// The kinds of operations.
-pub const KINDS: [Operation; 4] = [
-    Operation::Create,
-    Operation::Read,
-    Operation::Write,
-    Operation::Cleanup,
-];
 
 /// Some callbacks of a filter.
 #[derive(Clone, Copy)]
@@ -40,15 +32,6 @@ impl Callbacks {
                 self.add(callback);
             }
         }
-    }
-}
-
-pub(crate) fn kind_place(kind: Operation) -> usize {
-    match kind {
-        Operation::Create => 0,
-        Operation::Read => 1,
-        Operation::Write => 2,
-        Operation::Cleanup => 3,
     }
 }
 
@@ -132,12 +115,14 @@ fn reached_by(graph: &Graph, started: &[Callbacks], kind: Operation) -> Callback
 }
 
 /// The callbacks that an operation of each kind can start.
-pub(crate) fn all_reached(alloc: Global, graph: &Graph) -> Result<[Callbacks; 4], AllocError> {
+pub(crate) fn all_reached(
+    alloc: Global,
+    graph: &Graph,
+) -> Result<[Callbacks; OPERATIONS], AllocError> {
     let started = all_started(alloc, graph)?;
-    Ok([
-        reached_by(graph, started.as_slice(), Operation::Create),
-        reached_by(graph, started.as_slice(), Operation::Read),
-        reached_by(graph, started.as_slice(), Operation::Write),
-        reached_by(graph, started.as_slice(), Operation::Cleanup),
-    ])
+    let mut all = [NO_CALLBACKS; OPERATIONS];
+    for (reached, kind) in all.iter_mut().zip(Operation::all()) {
+        *reached = reached_by(graph, started.as_slice(), *kind);
+    }
+    Ok(all)
 }

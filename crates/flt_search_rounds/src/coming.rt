@@ -2,9 +2,7 @@
 
 use crate::key::is_runner;
 use crate::round_search::{Search, State};
-use flt_model::fits_mode;
 use flt_rules::{Mode, Operation, Place};
-use flt_search_plan::KINDS;
 use flt_search_world::{
     ContextLink, MAX_ACTIVATIONS, MAX_CONTEXTS, MAX_FILTERS, MAX_ITEMS, MAX_OPERATIONS, Next,
     Whereabouts, World,
@@ -153,7 +151,7 @@ impl<'p> Search<'p> {
         if world.alive() >= self.round.alive || world.arrived >= self.round.total {
             return Ok(());
         }
-        for (place, kind) in KINDS.iter().enumerate() {
+        for (place, kind) in Operation::all().iter().enumerate() {
             if self.comes(place) {
                 self.take_kind(from, *kind, cost)?;
             }
@@ -171,7 +169,7 @@ impl<'p> Search<'p> {
 
     fn take_kind(&mut self, from: &State, kind: Operation, cost: u8) -> Result<(), AllocError> {
         for mode in [Mode::Irp, Mode::Fast] {
-            if fits_mode(kind, mode) {
+            if kind.fits(mode) {
                 self.take_arrivals_of(from, kind, mode, cost)?;
             }
         }
@@ -180,7 +178,7 @@ impl<'p> Search<'p> {
 
     /// Finds out which kinds of operations come.
     pub(crate) fn find_coming(&mut self) {
-        for (place, kind) in KINDS.iter().enumerate() {
+        for (place, kind) in Operation::all().iter().enumerate() {
             let comes = self.is_coming(*kind);
             if let Some(own) = self.coming.get_mut(place) {
                 *own = comes;

@@ -88,12 +88,7 @@ impl Mix {
 // ---- operations
 
 fn kind_part(kind: Operation) -> u64 {
-    match kind {
-        Operation::Create => 11,
-        Operation::Read => 12,
-        Operation::Write => 13,
-        Operation::Cleanup => 14,
-    }
+    (kind.number() as u64).wrapping_add(11)
 }
 
 fn at_part(at: Whereabouts) -> u64 {

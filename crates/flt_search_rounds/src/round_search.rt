@@ -7,6 +7,7 @@ use crate::rounds::Round;
 use crate::targets::{Met, Stand, Targets};
 use crate::watch::{SearchWatch, WatchedSearch};
 use flt_model::{JournalEntry, Violation};
+use flt_rules::OPERATIONS;
 use flt_search_plan::Plan;
 use flt_search_world::{Course, NOTHING_MADE, Next, OPENING, World};
 use std::alloc::{AllocError, Global};
@@ -122,7 +123,7 @@ pub struct Search<'p> {
     /// The number of the round's moves that are left.
     moves: u32,
     /// The kinds of operations that come.
-    pub(crate) coming: [bool; 4],
+    pub(crate) coming: [bool; OPERATIONS],
     /// The keys that were met, and the number of switches of each.
     seen: HashMap<u64, u8>,
     /// The states within turns that were met last, by keys without the turns that are left.
@@ -166,7 +167,7 @@ impl<'p> Search<'p> {
             classes: NO_COUNTS,
             share: 0,
             moves: round.states.saturating_mul(MOVES),
-            coming: [false; 4],
+            coming: [false; OPERATIONS],
             seen: HashMap::new(alloc),
             anchors: BTreeMap::new(alloc),
             found: Vec::new(alloc),

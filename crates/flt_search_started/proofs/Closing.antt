@@ -1,8 +1,7 @@
 -- Marks that pass the tests are a set that nothing leads out of.
 use Rattle.std.proofs.Common.{◌≡◌, ℕ, Bool, true, false, not, ◌||◌, List}
-use Rattle.std.proofs.lemmas.Bool.{and_parts}
+use Rattle.flt_rules.proofs.Operations.{of_each}
 use Rattle.flt_rules.specs.declared.place.Operation.{Operation}
-use Rattle.flt_rules.specs.declared.place.Operation.TheVariants.{Create, Read, Write, Cleanup}
 use Rattle.flt_tree.specs.Registered.{has_pre}
 use Rattle.flt_tree.specs.declared.filter.Callback.{Callback}
 use Rattle.flt_starts.specs.Closed.{IsClosed, pre_number}
@@ -16,14 +15,7 @@ implied false b h a = absurd (cc a)
 module _ (cs : List Callback) (marks : List Bool) (entries : has_entries cs marks ≡ true) where
   -- that of each operation
   entry : (kind : Operation) → has_entry cs marks kind ≡ true
-  entry Create = (and_parts (has_entry cs marks Create) _ entries).0
-  entry Read = (and_parts (has_entry cs marks Read) _ (and_parts (has_entry cs marks Create) _ entries).1).0
-  entry Write =
-      (and_parts (has_entry cs marks Write) _
-      (and_parts (has_entry cs marks Read) _ (and_parts (has_entry cs marks Create) _ entries).1).1).0
-  entry Cleanup =
-      (and_parts (has_entry cs marks Write) _
-      (and_parts (has_entry cs marks Read) _ (and_parts (has_entry cs marks Create) _ entries).1).1).1
+  entry = of_each (has_entry cs marks) entries
 
   -- marks that pass the tests are a closed set
   pub closed : ((k : ℕ) → is_kept cs marks k ≡ true) → IsClosed cs (is_marked marks)

@@ -1,7 +1,8 @@
 -- Sets of callbacks as marks, one for each callback in the order of the text. This project's own definitions.
-use Rattle.std.specs.Prelude.{ℕ, Bool, false, not, ◌&&◌, ◌||◌, List, get_or}
+use Rattle.std.specs.Prelude.{ℕ, Bool, false, not, ◌||◌, List, get_or}
+use Rattle.std.specs.List.{list_all}
+use Rattle.flt_rules.specs.Place.{all_operations}
 use Rattle.flt_rules.specs.declared.place.Operation.{Operation}
-use Rattle.flt_rules.specs.declared.place.Operation.TheVariants.{Create, Read, Write, Cleanup}
 use Rattle.flt_tree.specs.Registered.{has_pre}
 use Rattle.flt_tree.specs.declared.filter.Callback.{Callback}
 use Rattle.flt_model.specs.Program.{body_at, place_at}
@@ -17,7 +18,7 @@ has_entry cs marks kind = not (has_pre cs kind) || is_marked marks (pre_number c
 
 -- that of each operation
 abbrev pub has_entries : List Callback → List Bool → Bool
-has_entries cs marks = has_entry cs marks Create && (has_entry cs marks Read && (has_entry cs marks Write && has_entry cs marks Cleanup))
+has_entries cs marks = list_all (has_entry cs marks) all_operations
 
 -- all that a callback asks for is marked, if it is marked itself
 abbrev pub is_kept : List Callback → List Bool → ℕ → Bool

@@ -6,14 +6,6 @@ use flt_rules::{Operation, Place};
 use flt_tree::{Callback, Condition, FallibleCall, PlainCall, Statement, Status};
 use sqlite_items::Items;
 
-/// The kinds of operation.
-pub(crate) const KINDS: [Operation; 4] = [
-    Operation::Create,
-    Operation::Read,
-    Operation::Write,
-    Operation::Cleanup,
-];
-
 /// Marks a callback, if it is there.
 pub(crate) fn mark(marks: &mut Items<bool>, number: usize) {
     if number < marks.len() {
@@ -46,8 +38,8 @@ fn mark_by_return(
 
 fn mark_by_plain(callbacks: &[Callback], marks: &mut Items<bool>, call: PlainCall) {
     if let PlainCall::CompletePendedPreOperation(_, status) = call {
-        for kind in KINDS {
-            mark_by_status(callbacks, marks, false, Some(status), kind);
+        for kind in Operation::all() {
+            mark_by_status(callbacks, marks, false, Some(status), *kind);
         }
     }
 }

@@ -7,7 +7,7 @@ ghost use Rattle.flt_search_started.specs.Marks as spec;
 ghost use Rattle.flt_tree.specs.declared.filter.Callback.{Callback};
 ghost use Rattle.flt_search_started.specs.Marks.{is_marked as marked};
 
-use crate::asked::{KINDS, mark, mark_by_body};
+use crate::asked::{mark, mark_by_body};
 use crate::callbacks::{has_pre, pre_number};
 use crate::within::{body_within, is_marked};
 use flt_rules::Operation;
@@ -37,8 +37,8 @@ fn entered(alloc: Global, callbacks: &[Callback]) -> Result<Items<bool>, AllocEr
     for _callback in callbacks {
         marks.push(false)?;
     }
-    for kind in KINDS {
-        mark(&mut marks, pre_number(callbacks, kind));
+    for kind in Operation::all() {
+        mark(&mut marks, pre_number(callbacks, *kind));
     }
     Ok(marks)
 }
@@ -68,10 +68,9 @@ fn has_entry(callbacks: &[Callback], marks: &[bool], kind: Operation) -> bool
 fn has_entries(callbacks: &[Callback], marks: &[bool]) -> bool
     ensures { result ≡ spec.has_entries callbacks.now marks.now }
 {
-    has_entry(callbacks, marks, Operation::Create)
-        && has_entry(callbacks, marks, Operation::Read)
-        && has_entry(callbacks, marks, Operation::Write)
-        && has_entry(callbacks, marks, Operation::Cleanup)
+    Operation::all()
+        .iter()
+        .all(|kind| has_entry(callbacks, marks, *kind))
 }
 
 /// Whether all that a marked callback asks for is marked.

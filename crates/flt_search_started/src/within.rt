@@ -1,6 +1,8 @@
 //! Whether all callbacks that statements ask for may start.
 
-ghost use Rattle.std.specs.Prelude.{◌≡◌, false, get_or};
+ghost use Rattle.std.specs.Prelude.{◌≡◌, Some, false, get_or};
+ghost use Rattle.std.specs.List.{list_all};
+ghost use Rattle.flt_rules.specs.Place.{all_operations};
 ghost use Rattle.flt_starts.specs.Closed as spec;
 ghost use Rattle.flt_model.specs.Settling as settling;
 ghost use Rattle.flt_search_started.specs.Marks.{is_marked as marked};
@@ -57,15 +59,19 @@ fn return_within(
     }
 }
 
+/// The same of an operation of any kind that is completed with a status.
+fn completed_within(callbacks: &[Callback], marks: &[bool], status: Status) -> bool
+    ensures { result ≡ list_all (spec.status_within callbacks.now (marked marks.now) false (Some status)) all_operations }
+{
+    Operation::all().iter().all(|kind| status_within(callbacks, marks, false, Some(status), *kind))
+}
+
 fn plain_within(callbacks: &[Callback], marks: &[bool], call: PlainCall) -> bool
     ensures { result ≡ spec.plain_within callbacks.now (marked marks.now) call }
 {
     match call {
         PlainCall::CompletePendedPreOperation(_, status) => {
-            status_within(callbacks, marks, false, Some(status), Operation::Create)
-                && status_within(callbacks, marks, false, Some(status), Operation::Read)
-                && status_within(callbacks, marks, false, Some(status), Operation::Write)
-                && status_within(callbacks, marks, false, Some(status), Operation::Cleanup)
+            completed_within(callbacks, marks, status)
         }
         _ => true,
     }

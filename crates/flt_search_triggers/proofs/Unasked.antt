@@ -6,11 +6,11 @@ use Rattle.std.proofs.lemmas.List.Sums.{passes_at_first, sum-map, sum_by-cons}
 use Rattle.std.proofs.lemmas.Option.{get_or_from_slice_get, slice_get-get_or}
 use Rattle.std.specs.Prelude.{◌&&◌, ◌==◌, length, get_or, slice_get}
 use Rattle.std.specs.List.{list_any}
+use Rattle.flt_rules.proofs.Operations.{of_all, same_turned}
 use Rattle.flt_rules.specs.Place.{same_operation}
 use Rattle.flt_rules.specs.declared.call.Call.TheVariants as call
 use Rattle.flt_rules.specs.declared.call.Possessed.{Possessed}
 use Rattle.flt_rules.specs.declared.place.Operation.{Operation}
-use Rattle.flt_rules.specs.declared.place.Operation.TheVariants.{Create, Read, Write, Cleanup}
 use Rattle.flt_rules.specs.declared.place.Place.TheVariants as place
 use Rattle.flt_tree.specs.Filter.{head_place, is_named}
 use Rattle.flt_tree.specs.Measures.{points, points_of, points_step}
@@ -68,25 +68,6 @@ points_cons : (s : Statement) (rest : List Statement) → points (s ∷ rest) �
 points_cons s rest =
     sum-map points_of (s ∷ rest) ∙ (sum_by-cons points_of s rest ∙ ap (λ n. points_of s + n) (sym (sum-map points_of rest)))
 
--- two operations are one both ways round
-same_turned : (own kind : Operation) → same_operation kind own ≡ true → same_operation own kind ≡ true
-same_turned Create Create e = refl
-same_turned Read Read e = refl
-same_turned Write Write e = refl
-same_turned Cleanup Cleanup e = refl
-same_turned Create Read e = absurd (cc)
-same_turned Create Write e = absurd (cc)
-same_turned Create Cleanup e = absurd (cc)
-same_turned Read Create e = absurd (cc)
-same_turned Read Write e = absurd (cc)
-same_turned Read Cleanup e = absurd (cc)
-same_turned Write Create e = absurd (cc)
-same_turned Write Read e = absurd (cc)
-same_turned Write Cleanup e = absurd (cc)
-same_turned Cleanup Create e = absurd (cc)
-same_turned Cleanup Read e = absurd (cc)
-same_turned Cleanup Write e = absurd (cc)
-
 -- ---- what a callback at a place is asked for by
 
 -- a status that doesn't have a post callback called asks for none
@@ -117,7 +98,7 @@ completed (head.Generic name) w c k none kind e = absurd (cc)
 answered : (own : Operation) (h : Head) (st : Option Status) → is_started_by_status (place.Pre own) st (head_place h) ≡ false →
     is_post_of own h ≡ true → is_calling_back st ≡ false
 answered own (head.Pre kind) st none e = absurd (cc)
-answered own (head.Post kind) st none e = subst (λ b. (b && is_calling_back st) ≡ false) (same_turned own kind e) none
+answered own (head.Post kind) st none e = subst (λ b. (b && is_calling_back st) ≡ false) (same_turned kind own e) none
 answered own head.Canceled st none e = absurd (cc)
 answered own (head.DeferredPre name) st none e = absurd (cc)
 answered own (head.DeferredPost name) st none e = absurd (cc)
@@ -202,7 +183,7 @@ module _ (cs : List Callback) (k : ℕ) (c : Callback) (within : k < length cs) 
   plain_by (plain_call.CompletePendedPreOperation d st) none =
       let asked = completed c.head (whose d) (plain (plain_call.CompletePendedPreOperation d st)) k none in
       let one : (o : Operation) → status_within cs may false (Some st) o ≡ true = λ o. status_by false (Some st) o (asked o) in
-      and_from _ _ (one Create) (and_from _ _ (one Read) (and_from _ _ (one Write) (and_from _ _ (one Cleanup) refl)))
+      of_all (status_within cs may false (Some st)) one
   plain_by _ none = refl
 
   fallible_by : (x : FallibleCall Routine) →

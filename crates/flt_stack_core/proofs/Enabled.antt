@@ -6,8 +6,9 @@ use Rattle.flt_machine_frames.specs.Loading.{AreLoaded}
 use Rattle.flt_machine_frames.specs.declared.loaded.Loaded.{Loaded}
 use Rattle.flt_machine.specs.Calls.{IsDisabled}
 use Rattle.flt_machine.specs.Situations.{Situation, IsBoard, Now}
+use Rattle.flt_rules.specs.Place.{fits_mode}
 use Rattle.flt_model.specs.Effects.{Step}
-use Rattle.flt_model.specs.Moves.{fits_mode, make}
+use Rattle.flt_model.specs.Moves.{make}
 use Rattle.flt_model.specs.declared.moves.Move.{Move}
 use Rattle.flt_model.specs.declared.moves.Move.TheVariants.{Arrive}
 use Rattle.flt_rules.specs.declared.place.Mode.{Mode}

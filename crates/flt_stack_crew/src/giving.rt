@@ -1,9 +1,9 @@
 //! The calls by which a stack's caller gives a command.
 
+ghost use Rattle.flt_rules.specs.Place.{fits_mode};
 ghost use Rattle.std.specs.Prelude.{◌≡◌, ◌≢◌, ◌<◌, ◌++◌, true, IsTrue, Err, OnErr, OnOk, length};
 ghost use Rattle.flt_stack_core.specs.Refusals.{has_altitude};
 ghost use Rattle.flt_stack_crew.specs.Giving as spec;
-ghost use Rattle.flt_model.specs.Moves.{fits_mode};
 ghost use Rattle.flt_stack_prepare.specs.ScriptText.{is_command};
 ghost use Rattle.flt_stack_threads.specs.Places.{IsCallerOf, asked_by};
 

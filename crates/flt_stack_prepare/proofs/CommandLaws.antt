@@ -4,10 +4,10 @@ use Rattle.std.specs.Prelude.{nat_lt, Some, None, Result, Ok, Err}
 use Rattle.std.specs.Result.{result_ok}
 use Rattle.std.proofs.lemmas.Bool.{and_parts, ltb-true}
 use Rattle.std.proofs.lemmas.List.{take_rest}
+use Rattle.flt_rules.specs.Place.{fits_mode}
 use Rattle.flt_model.specs.JournalText.{IsMove, move_line}
 use Rattle.flt_model.specs.JournalTextReading.{Counts}
 use Rattle.flt_model.specs.LineParts.{IsReadAs}
-use Rattle.flt_model.specs.Moves.{fits_mode}
 use Rattle.flt_model.specs.Streams.{Text}
 use Rattle.flt_model.specs.declared.moves.Move.{Move}
 use Rattle.flt_model.specs.declared.moves.Move.TheVariants as moves

@@ -1,22 +1,14 @@
--- What comes before a run fails for the texts first, and for equal altitudes last.
+-- What comes before a run fails for equal altitudes last.
 use Rattle.std.proofs.Common.{List, length}
 use Rattle.flt_stack_prepare.specs.Preparing.{Fails, IsAltitudeFault, IsScript}
-use Rattle.flt_stack_prepare.specs.Texts.{HaveCertificates, of_texts}
+use Rattle.flt_stack_prepare.specs.Texts.{HaveCertificates}
 use Rattle.flt_stack_prepare.specs.declared.fault.RunFault.{RunFault}
 use Rattle.flt_stack_prepare.specs.declared.fault.RunFault.TheVariants as fault
 use Rattle.flt_model.specs.Streams.{Text}
 use Rattle.flt_stack_prepare.specs.ScriptText.{Commands}
 use Rattle.flt_stack.specs.Loading.{IsCount}
-use Rattle.flt_syntax.specs.Texts.{AreSpelled, TextsFail}
-use Rattle.flt_syntax.specs.declared.texts.TextsFault.{TextsFault}
-use Rattle.flt_syntax.specs.declared.texts.TextsFault.TheVariants as unread
+use Rattle.flt_syntax.specs.Texts.{AreSpelled}
 use Rattle.flt_tree.specs.declared.filter.Filter.{Filter}
-
--- a text has a fault, or memory ran out
-pub texts_fail : (script : Text) (texts : List Text) (e : TextsFault) → IsCount (length texts) → TextsFail texts e →
-    Fails script texts (of_texts e)
-texts_fail script texts (unread.Syntax number f) counted fault = (counted, fault)
-texts_fail script texts unread.OutOfMemory counted fault = tt
 
 -- filters that are covered, and for which a script is one, have an altitude twice, or memory ran out
 pub altitude_fails : (script : Text) (texts : List Text) (filters : List Filter) (commands : Commands) (e : RunFault) →

@@ -2,9 +2,9 @@
 use Rattle.std.specs.Prelude.{◌≡◌, ◌≢◌, ℕ, suc, ◌^◌, Bool, true, false, ◌&&◌, not, ◌==◌, nat_lt}
 use Rattle.std.specs.Prelude.{List, [], ◌∷◌, ◌++◌, length, Option, Some, None, codes, IsTrue}
 use Rattle.std.specs.List.{flat_map, list_any}
+use Rattle.flt_rules.specs.Place.{fits_mode}
 use Rattle.flt_tree.specs.declared.filter.Filter.{Filter}
 use Rattle.flt_model.specs.JournalText.{move_line, number_text}
-use Rattle.flt_model.specs.Moves.{fits_mode}
 use Rattle.flt_model.specs.Streams.{Text}
 use Rattle.flt_model.specs.declared.moves.Move.{Move}
 use Rattle.flt_model.specs.declared.moves.Move.TheVariants as moves
@@ -20,7 +20,7 @@ use Rattle.flt_rules.specs.Limits.{max_operations}
 abbrev pub Commands : Type 0
 Commands = List Command
 
--- the mode and the number of a command are within bounds: create and cleanup are I/O request packets; there are 1,024
+-- the mode and the number of a command are within bounds: an operation comes in a mode of its kind; there are 1,024
 -- files and 65,536 operations; other numbers have 32 bits
 abbrev pub is_command : Command → Bool
 is_command (Arrive operation mode file) = fits_mode operation mode && nat_lt file 1024

@@ -6,7 +6,6 @@ ghost use Rattle.flt_model.specs.Program.{filters_of};
 ghost use Rattle.flt_stack_prepare.specs.ScriptText as spec;
 
 use crate::command::Command;
-use flt_model::fits_mode;
 use flt_rules::MAX_OPERATIONS;
 use flt_tree::Tree;
 
@@ -25,7 +24,7 @@ fn is_command(command: Command) -> bool
             operation,
             mode,
             file,
-        } => fits_mode(operation, mode) && file < FILES,
+        } => operation.fits(mode) && file < FILES,
         Command::Cancel { serial } => serial < OPERATIONS,
         Command::Detach { .. } | Command::Refuse { .. } => true,
     }

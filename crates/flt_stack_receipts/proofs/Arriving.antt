@@ -6,7 +6,7 @@ use Rattle.std.proofs.lemmas.List.{length-append}
 use Rattle.std.proofs.lemmas.List.Sums.{sum_by-cons}
 use Rattle.std.specs.Prelude.{cond, ◌&&◌, ◌||◌, not, nat_lt, if◌then◌else◌, is_some, find, replicate, count_by, option_map, option_and_then}
 use Rattle.flt_rules.specs.Held.{holds_lock}
-use Rattle.flt_rules.specs.Place.{answers}
+use Rattle.flt_rules.specs.Place.{answers, fits_mode}
 use Rattle.flt_rules.specs.declared.call.Existing.{Existing}
 use Rattle.flt_rules.specs.declared.call.Existing.TheVariants.{Keep, Replace}
 use Rattle.flt_rules.specs.declared.call.LockNumber.{LockNumber}
@@ -50,7 +50,7 @@ use Rattle.flt_model.specs.Calls.{removed, defer_by, queue_by, completed, comple
 use Rattle.flt_model.specs.Effects.{Step, after_unlink}
 use Rattle.flt_model.specs.Expansion.{expansion, expand}
 use Rattle.flt_model.specs.LocalSteps.{local_step}
-use Rattle.flt_model.specs.Moves.{calls_pre, pre_at, skip_at, lower_at, last_frame, pre_of, post_of, post_by, post_at, fits_mode, is_done}
+use Rattle.flt_model.specs.Moves.{calls_pre, pre_at, skip_at, lower_at, last_frame, pre_of, post_of, post_by, post_at, is_done}
 use Rattle.flt_model.specs.Moves.{is_entry_of, canceled_by, work_of, work_by, is_frame_of, drain_by, unlink_by, is_drained, make}
 use Rattle.flt_model.specs.Program.{callbacks_at, filter_of, routine_of}
 use Rattle.flt_model.specs.Reads.{put_value, read_value, write_value, read_file, test_irp}

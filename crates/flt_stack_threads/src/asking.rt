@@ -11,7 +11,8 @@ ghost use Rattle.flt_stack_core.specs.declared.fault.DetachFault.TheVariants as 
 ghost use Rattle.flt_machine_frames.specs.Loading.{AreLoaded};
 ghost use Rattle.flt_machine.specs.Situations.{Now};
 ghost use Rattle.flt_machine.specs.Tickets as tickets;
-ghost use Rattle.flt_model.specs.Moves.{fits_mode, make};
+ghost use Rattle.flt_rules.specs.Place.{fits_mode};
+ghost use Rattle.flt_model.specs.Moves.{make};
 ghost use Rattle.flt_model.specs.declared.moves.JournalEntry.TheVariants as journal_entry;
 ghost use Rattle.flt_model.specs.declared.moves.Move.TheVariants as moves;
 ghost use Rattle.flt_model.specs.declared.subject.Subject.{Subject};

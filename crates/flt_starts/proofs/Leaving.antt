@@ -6,6 +6,7 @@ use Rattle.std.proofs.lemmas.List.{get_or-set_other, length-set}
 use Rattle.std.proofs.lemmas.List.Elements.{All-head, All-rest}
 use Rattle.std.specs.List.{All}
 use Rattle.std.specs.Prelude.{if◌then◌else◌, is_some}
+use Rattle.flt_rules.proofs.Operations.{of_each}
 use Rattle.flt_rules.specs.Held.{holds_lock}
 use Rattle.flt_rules.specs.Place.{answers, is_irp}
 use Rattle.flt_rules.specs.declared.call.Existing.{Existing}
@@ -56,7 +57,7 @@ use Rattle.flt_starts.specs.Closed.{canceled_number, body_within, status_within,
 use Rattle.flt_starts.proofs.Found.{routine_elsewhere}
 use Rattle.flt_starts.proofs.Kept.{Setting, callbacks, Owns, Fits, Waits, Runs, RunsIn, Kept}
 use Rattle.flt_starts.proofs.Lists.{set_keeps, set_or}
-use Rattle.flt_starts.proofs.Stores.{Still, still, asked_by, of_kind, entry_still, queue_still, item_still, settled_still}
+use Rattle.flt_starts.proofs.Stores.{Still, still, asked_by, entry_still, queue_still, item_still, settled_still}
 
 -- ---- steps that go on with one of two lists, of which all that they ask for may start
 
@@ -170,8 +171,8 @@ module _ (q : Setting) (w : World) (k : Kept q w) (a : ℕ) where
         (settled_still q w.store k.store v x (way_of q.filters w.store v (CompletesPre (whose d) v st)) (λ asks own.
         asked_by q (visit_at w.store v).filter (arrival_of w.store v).kind (visit_at w.store v).stage false (Some st)
         (λ pre.
-        of_kind (status_within (callbacks q) q.may_start false (Some st)) (arrival_of w.store v).kind
-        (m (sym o.filter_is ∙ own))) asks own)) (on rest h)
+        of_each (status_within (callbacks q) q.may_start false (Some st)) (m (sym o.filter_is ∙ own))
+        (arrival_of w.store v).kind) asks own)) (on rest h)
 
     complete_to : (d : OperationVariable) (st : Status) (v : Option ℕ) (c : Option (Option ℕ)) → IfSome v Own →
         (own_filter ≡ q.own → plain_within (callbacks q) q.may_start (plain.CompletePendedPreOperation d st) ≡ true) →

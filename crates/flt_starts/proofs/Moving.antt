@@ -8,9 +8,9 @@ use Rattle.std.proofs.lemmas.List.{get_or_past, length-append}
 use Rattle.std.proofs.lemmas.List.Elements.{All-append, All-drop, All-nil, All-take, All-weaker}
 use Rattle.std.specs.List.{All, position_or_len}
 use Rattle.std.specs.Prelude.{◌&&◌, ◌||◌, not, nat_lt, if◌then◌else◌, find, replicate}
-use Rattle.flt_rules.specs.Place.{answers, same_operation}
+use Rattle.flt_rules.proofs.Operations.{same_is}
+use Rattle.flt_rules.specs.Place.{answers, fits_mode, same_operation}
 use Rattle.flt_rules.specs.declared.place.Operation.{Operation}
-use Rattle.flt_rules.specs.declared.place.Operation.TheVariants.{Create, Read, Write, Cleanup}
 use Rattle.flt_rules.specs.declared.place.Place.{Place}
 use Rattle.flt_rules.specs.declared.place.Place.TheVariants as place
 use Rattle.flt_rules.specs.declared.place.Stage.TheVariants as stage
@@ -25,7 +25,7 @@ use Rattle.flt_model.specs.declared.moves.Move.TheVariants.{Arrive, Pre, Skip, L
 use Rattle.flt_model.specs.declared.moves.Move.TheVariants.{Work, Detach, Drain, Unlink, Detached}
 use Rattle.flt_model.specs.Effects.{Step}
 use Rattle.flt_model.specs.Moves.{calls_pre, pre_at, skip_at, lower_at, last_frame, without_last, pre_of, post_of, post_by}
-use Rattle.flt_model.specs.Moves.{post_at, fits_mode, is_done, is_entry_of, other_entries, canceled_by, work_of, work_by, is_frame_of}
+use Rattle.flt_model.specs.Moves.{post_at, is_done, is_entry_of, other_entries, canceled_by, work_of, work_by, is_frame_of}
 use Rattle.flt_model.specs.Moves.{other_frames, drain_by, unlink_by, is_drained, with_arrival, with_visit, make}
 use Rattle.flt_model.specs.Program.{callbacks_at, filter_of, is_canceled, body_for, body_at, place_at}
 use Rattle.flt_model.specs.Variables.{starting}
@@ -46,13 +46,6 @@ use Rattle.flt_starts.proofs.Lists.{Grows, stays, pushed, push_both, find_all, l
 use Rattle.flt_starts.proofs.Stores.{route_still, queue_still, started_still}
 
 -- ---- heads
-
-same_is : (a b : Operation) → same_operation a b ≡ true → a ≡ b
-same_is Create Create h = refl
-same_is Read Read h = refl
-same_is Write Write h = refl
-same_is Cleanup Cleanup h = refl
-same_is a b h = absurd (cc)
 
 pre_place : (kind : Operation) (h : Head) → is_pre_of kind h ≡ true → head_place h ≡ place.Pre kind
 pre_place kind (head.Pre own) h = ap place.Pre (same_is own kind h)

@@ -1,13 +1,11 @@
 -- Changes of what activations share that keep it so: those of routes, queues and work items; and where a frame comes from.
 use Rattle.std.proofs.Common.{◌≡◌, ℕ, Bool, true, false, List, [], ◌∷◌, ◌++◌, Option, Some, None, IfSome, refl, sym, subst, ◌∙◌}
 use Rattle.std.proofs.Math.ListN.{set}
-use Rattle.std.proofs.lemmas.Bool.{and_parts}
 use Rattle.std.proofs.lemmas.List.{length-set}
 use Rattle.std.proofs.lemmas.List.Elements.{All-push}
-use Rattle.std.specs.List.{All, list_all}
+use Rattle.std.specs.List.{All}
 use Rattle.std.specs.Prelude.{not, ◌||◌, if◌then◌else◌}
 use Rattle.flt_rules.specs.declared.place.Operation.{Operation}
-use Rattle.flt_rules.specs.declared.place.Operation.TheVariants.{Create, Read, Write, Cleanup}
 use Rattle.flt_rules.specs.declared.place.Place.{Place}
 use Rattle.flt_rules.specs.declared.place.Place.TheVariants as place
 use Rattle.flt_rules.specs.declared.place.Stage.{Stage}
@@ -57,25 +55,6 @@ end_within cs may_start place.Canceled = refl
 end_within cs may_start place.DeferredPre = refl
 end_within cs may_start place.DeferredPost = refl
 end_within cs may_start place.Generic = refl
-
--- what holds of each kind holds of one
-pub of_kind : (test : Operation → Bool) (kind : Operation) → list_all test (Create ∷ Read ∷ Write ∷ Cleanup ∷ []) ≡ true → test kind ≡ true
-of_kind test kind h = by kind
-  where
-    first : (test Create ≡ true) × (list_all test (Read ∷ Write ∷ Cleanup ∷ []) ≡ true)
-    first = and_parts (test Create) (list_all test (Read ∷ Write ∷ Cleanup ∷ [])) h
-
-    second : (test Read ≡ true) × (list_all test (Write ∷ Cleanup ∷ []) ≡ true)
-    second = and_parts (test Read) (list_all test (Write ∷ Cleanup ∷ [])) first.1
-
-    third : (test Write ≡ true) × (list_all test (Cleanup ∷ []) ≡ true)
-    third = and_parts (test Write) (list_all test (Cleanup ∷ [])) second.1
-
-    by : (kind : Operation) → test kind ≡ true
-    by Create = first.0
-    by Read = second.0
-    by Write = third.0
-    by Cleanup = (and_parts (test Cleanup) true third.1).0
 
 module _ (q : Setting) where
   -- the post callback of an operation of the filter may start

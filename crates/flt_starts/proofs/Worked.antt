@@ -1,8 +1,9 @@
 -- The pre callback alone is a closed set where it returns NO_CALLBACK, and isn't one where it asks for the post callback.
 use Rattle.std.proofs.Common.{◌≡◌, ℕ, zero, suc, Bool, true, false, List, Some, None, refl, sym, ap, ◌∙◌}
-use Rattle.std.specs.Prelude.{◌&&◌}
+use Rattle.std.specs.Prelude.{not, ◌&&◌, ◌||◌}
+use Rattle.flt_rules.proofs.Operations.{of_each}
 use Rattle.flt_rules.specs.declared.place.Operation.{Operation}
-use Rattle.flt_rules.specs.declared.place.Operation.TheVariants.{Create, Read, Write, Cleanup}
+use Rattle.flt_rules.specs.declared.place.Operation.TheVariants.{Read}
 use Rattle.flt_rules.specs.declared.place.Place.TheVariants as place
 use Rattle.flt_tree.specs.Registered.{has_pre}
 use Rattle.flt_tree.specs.declared.filter.Callback.{Callback}
@@ -25,15 +26,18 @@ returned cs st =
     ap (λ (s : Statement-F Statement). step_within cs pre_alone (place.Pre Read)
     (map-Statement Statement Bool (statement_within cs pre_alone (place.Pre Read)) s)) (outs-Return here (Some st))
 
+-- where the first holds the second does
+implied : (a b : Bool) → not a || b ≡ true → a ≡ true → b ≡ true
+implied true b h a = h
+implied false b h a = absurd (cc a)
+
 -- nothing leads out of it
 unasking_closed : IsClosed (callbacks_at unasking 0) pre_alone
 unasking_closed = record { pre = pre; asked = asked }
   where
     pre : (kind : Operation) → has_pre (callbacks_at unasking 0) kind ≡ true → pre_alone (pre_number (callbacks_at unasking 0) kind) ≡ true
-    pre Create h = absurd (cc)
-    pre Read h = refl
-    pre Write h = absurd (cc)
-    pre Cleanup h = absurd (cc)
+    pre kind h = implied (has_pre (callbacks_at unasking 0) kind) (pre_alone (pre_number (callbacks_at unasking 0) kind))
+        (of_each (λ k. not (has_pre (callbacks_at unasking 0) k) || pre_alone (pre_number (callbacks_at unasking 0) k)) refl kind) h
 
     asked : (k : ℕ) → pre_alone k ≡ true →
         body_within (callbacks_at unasking 0) pre_alone (place_at (callbacks_at unasking 0) k) (body_at (callbacks_at unasking 0) k) ≡ true

@@ -4,8 +4,8 @@
 -- FltQueueGenericWorkItem.
 use Rattle.std.specs.Prelude.{◌≡◌, ℕ, Bool, true, false, not, ◌&&◌, ◌||◌, List, [], ◌∷◌, map, Option, Some}
 use Rattle.std.specs.List.{list_all, position_or_len}
+use Rattle.flt_rules.specs.Place.{all_operations}
 use Rattle.flt_rules.specs.declared.place.Operation.{Operation}
-use Rattle.flt_rules.specs.declared.place.Operation.TheVariants.{Create, Read, Write, Cleanup}
 use Rattle.flt_rules.specs.declared.place.Place.{Place}
 use Rattle.flt_rules.specs.declared.place.Place.TheVariants as place
 use Rattle.flt_tree.specs.Registered.{is_pre_of, is_post_of, has_pre, has_post, routine_of}
@@ -58,7 +58,7 @@ module _ (cs : List Callback) (may_start : ℕ → Bool) where
 
   -- a pended operation that is completed is of any kind
   abbrev pub plain_within : PlainCall → Bool
-  plain_within (plain.CompletePendedPreOperation d st) = list_all (status_within false (Some st)) (Create ∷ Read ∷ Write ∷ Cleanup ∷ [])
+  plain_within (plain.CompletePendedPreOperation d st) = list_all (status_within false (Some st)) all_operations
   plain_within _ = true
 
   -- an entry of the queue asks for the callback of cancelled ones, and a work item for its routine

@@ -9,7 +9,8 @@ use Rattle.flt_syntax.specs.Cursor.{Input, kind, fault_at}
 use Rattle.flt_syntax.specs.Grammar.{HeadAt, CallbackAt, LocksAt, QueueAt}
 use Rattle.flt_syntax.specs.FirstWords.{begins_head}
 use Rattle.flt_syntax.specs.Scope.{Scope}
-use Rattle.flt_syntax.specs.Tables.{lock_kind_of, operation_of}
+use Rattle.flt_syntax.specs.Operations.{operation_of}
+use Rattle.flt_syntax.specs.Tables.{lock_kind_of}
 use Rattle.flt_syntax.specs.Words.{Next, Meant, NameAt, NumberAt}
 use Rattle.flt_syntax.specs.declared.fault.FaultKind.TheVariants.{E05, E06}
 use Rattle.flt_syntax.specs.declared.fault.SyntaxFault.{SyntaxFault}

@@ -8,7 +8,8 @@ use Rattle.flt_syntax.specs.Cursor.{Input, kind, position, span}
 use Rattle.flt_tree.specs.Names.{Text}
 use Rattle.flt_syntax.specs.Scope.{Scope}
 use Rattle.flt_rules.specs.Limits.{max_depth, max_repeats, max_turns}
-use Rattle.flt_syntax.specs.Tables.{lock_kind_of, operation_of}
+use Rattle.flt_syntax.specs.Operations.{operation_of}
+use Rattle.flt_syntax.specs.Tables.{lock_kind_of}
 use Rattle.flt_syntax.specs.Words.{Next, Meant, NameAt, NumberAt}
 use Rattle.flt_tree.specs.declared.filter.Action.{Action}
 use Rattle.flt_tree.specs.declared.filter.Callback.{Callback}

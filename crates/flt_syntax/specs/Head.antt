@@ -15,7 +15,7 @@ use Rattle.flt_tree.specs.declared.filter.Head.TheVariants.{Pre, Post, Canceled,
 use Rattle.flt_syntax.specs.declared.token.Kind.{Kind}
 use Rattle.flt_syntax.specs.declared.token.Kind.TheVariants as k
 pub use Rattle.flt_syntax.specs.FirstWords.{begins_head}
-pub use Rattle.flt_syntax.specs.Tables.{operation_of}
+pub use Rattle.flt_syntax.specs.Operations.{operation_of}
 
 -- OP
 unfoldable pub operation : Parser Operation

@@ -13,6 +13,7 @@ pub mod Grammar
 pub mod Head
 pub mod Lex
 pub mod Operand
+pub mod Operations
 pub mod Over
 pub mod RoutineFails
 pub mod Scope

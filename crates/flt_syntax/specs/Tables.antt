@@ -5,8 +5,6 @@ use Rattle.flt_rules.specs.declared.call.Existing.{Existing}
 use Rattle.flt_rules.specs.declared.call.Existing.TheVariants as kept
 use Rattle.flt_rules.specs.declared.call.LockKind.{LockKind}
 use Rattle.flt_rules.specs.declared.call.LockKind.TheVariants as locked
-use Rattle.flt_rules.specs.declared.place.Operation.{Operation}
-use Rattle.flt_rules.specs.declared.place.Operation.TheVariants as operating
 use Rattle.flt_rules.specs.declared.status.FinalStatus.{FinalStatus}
 use Rattle.flt_rules.specs.declared.status.FinalStatus.TheVariants as finals
 use Rattle.flt_tree.specs.declared.filter.Status.{Status}
@@ -96,14 +94,6 @@ abbrev pub existing_of : Kind → Option Existing
 existing_of k.KeepIfExists = Some kept.Keep
 existing_of k.ReplaceIfExists = Some kept.Replace
 existing_of _ = None
-
--- OP: the operation that a word is
-abbrev pub operation_of : Kind → Option Operation
-operation_of k.Create = Some operating.Create
-operation_of k.Read = Some operating.Read
-operation_of k.Write = Some operating.Write
-operation_of k.Cleanup = Some operating.Cleanup
-operation_of _ = None
 
 -- the kind of lock that a word is
 abbrev pub lock_kind_of : Kind → Option LockKind

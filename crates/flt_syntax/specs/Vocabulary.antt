@@ -1,8 +1,11 @@
 -- The words of the language, each with the kind of token that it is. Any other word can only be a name.
 -- Routines, statuses and constants are spelled as the driver kit spells them; a status drops FLT_PREOP_, FLT_PREOP_SUCCESS_
 -- or FLT_POSTOP_, and what a set does drops FLT_SET_CONTEXT_. The other words are this project's own.
-use Rattle.std.specs.Prelude.{List, [], ◌∷◌, ◌++◌, codes}
+use Rattle.std.specs.Prelude.{List, [], ◌∷◌, ◌++◌, codes, map}
+use Rattle.flt_rules.specs.Place.{all_operations, operation_name}
+use Rattle.flt_rules.specs.declared.place.Operation.{Operation}
 use Rattle.flt_tree.specs.Names.{Text}
+use Rattle.flt_syntax.specs.Operations.{operation_kind}
 use Rattle.flt_syntax.specs.declared.token.Kind.{Kind}
 use Rattle.flt_syntax.specs.declared.token.Kind.TheVariants as k
 
@@ -17,7 +20,7 @@ filter_vocabulary =
     (codes "push", k.Push) ∷
     (codes "queue", k.Queue) ∷ []
 
--- what a callback is registered for, and the operations
+-- what a callback is registered for
 abbrev pub callback_vocabulary : List (Text × Kind)
 callback_vocabulary =
     (codes "pre", k.Pre) ∷
@@ -25,11 +28,11 @@ callback_vocabulary =
     (codes "canceled", k.Canceled) ∷
     (codes "deferred_pre", k.DeferredPre) ∷
     (codes "deferred_post", k.DeferredPost) ∷
-    (codes "generic", k.Generic) ∷
-    (codes "create", k.Create) ∷
-    (codes "read", k.Read) ∷
-    (codes "write", k.Write) ∷
-    (codes "cleanup", k.Cleanup) ∷ []
+    (codes "generic", k.Generic) ∷ []
+
+-- the operations, each by its name
+abbrev pub operation_vocabulary : List (Text × Kind)
+operation_vocabulary = map (λ (kind : Operation). (operation_name kind, operation_kind kind)) all_operations
 
 -- what statements say and test; `data` is the given operation
 abbrev pub statement_vocabulary : List (Text × Kind)
@@ -131,5 +134,5 @@ variable_vocabulary =
 -- all of them
 abbrev pub vocabulary : List (Text × Kind)
 vocabulary =
-    filter_vocabulary ++ callback_vocabulary ++ statement_vocabulary ++ status_vocabulary ++ final_status_vocabulary
-    ++ fallible_call_vocabulary ++ plain_call_vocabulary ++ variable_vocabulary
+    filter_vocabulary ++ callback_vocabulary ++ operation_vocabulary ++ statement_vocabulary ++ status_vocabulary
+    ++ final_status_vocabulary ++ fallible_call_vocabulary ++ plain_call_vocabulary ++ variable_vocabulary

@@ -15,23 +15,11 @@ use flt_tree::{Callback, Head};
 use sqlite_items::Items;
 use std::alloc::Global;
 
-fn operation_of(kind: Kind) -> Option<Operation>
-    ensures { result ≡ spec.operation_of kind }
-{
-    match kind {
-        Kind::Create => Some(Operation::Create),
-        Kind::Read => Some(Operation::Read),
-        Kind::Write => Some(Operation::Write),
-        Kind::Cleanup => Some(Operation::Cleanup),
-        _ => None,
-    }
-}
-
 #[tactic(auto, unfolding(crate::specs::Head::operation))]
 fn operation(tokens: &mut Tokens<'_>) -> Result<Operation, ParseError>
     ensures { Reads (spec.operation tokens.old.rest.now) result tokens.new.rest.now }
 {
-    match operation_of(tokens.peek()) {
+    match tokens.peek().operation() {
         None => Err(tokens.refuse()),
         Some(operation) => {
             tokens.take();
@@ -149,8 +137,8 @@ fn event_of(first: Kind, second: Kind) -> Option<Head>
     ensures { result ≡ spec.event_of first second }
 {
     match first {
-        Kind::Pre => Some(Head::Pre(operation_of(second)?)),
-        Kind::Post => Some(Head::Post(operation_of(second)?)),
+        Kind::Pre => Some(Head::Pre(second.operation()?)),
+        Kind::Post => Some(Head::Post(second.operation()?)),
         Kind::Canceled => Some(Head::Canceled),
         _ => None,
     }

@@ -1,5 +1,6 @@
 //! Tokens, and their places.
 
+use flt_rules::Operation;
 use flt_tree::Position;
 
 /// The kinds of token. Each word that the grammar names is one, and each variable.
@@ -120,6 +121,36 @@ pub enum Kind {
     Malformed,
     /// The end of the text.
     End,
+}
+
+impl Kind {
+    ghost use Rattle.flt_syntax.specs.Operations.{operation_kind, operation_of};
+    ghost use Rattle.std.specs.Prelude.{◌≡◌};
+
+    /// The kind of an operation's name.
+    pub fn of_operation(operation: Operation) -> Kind
+        ensures { result ≡ operation_kind operation }
+    {
+        match operation {
+            Operation::Create => Kind::Create,
+            Operation::Read => Kind::Read,
+            Operation::Write => Kind::Write,
+            Operation::Cleanup => Kind::Cleanup,
+        }
+    }
+
+    /// The operation that a word of this kind names.
+    pub(crate) fn operation(self) -> Option<Operation>
+        ensures { result ≡ operation_of self }
+    {
+        match self {
+            Kind::Create => Some(Operation::Create),
+            Kind::Read => Some(Operation::Read),
+            Kind::Write => Some(Operation::Write),
+            Kind::Cleanup => Some(Operation::Cleanup),
+            _ => None,
+        }
+    }
 }
 
 /// A kind, and the value of a number, else 0.

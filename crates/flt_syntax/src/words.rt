@@ -6,171 +6,135 @@ ghost use Rattle.flt_syntax.specs.Lex.{lookup, IsVariable};
 ghost use Rattle.flt_syntax.specs.Vocabulary.{vocabulary};
 
 use crate::token::Kind;
+use crate::vocabulary as word;
 use crate::vocabulary::keywords;
 
-const LOWER_F: [(&[u8], Kind); 3] = [
-    (b"filter", Kind::Filter),
-    (b"fast", Kind::Fast),
-    (b"file", Kind::File),
-];
+const LOWER_F: [(&[u8], Kind); 3] = [word::FILTER, word::FAST, word::FILE];
 
-const LOWER_A: [(&[u8], Kind); 3] = [
-    (b"altitude", Kind::Altitude),
-    (b"as", Kind::As),
-    (b"arg", Kind::Arg),
-];
+const LOWER_A: [(&[u8], Kind); 3] = [word::ALTITUDE, word::AS, word::ARG];
 
-const LOWER_L: [(&[u8], Kind); 1] = [(b"lock", Kind::Lock)];
+const LOWER_L: [(&[u8], Kind); 1] = [word::LOCK];
 
-const LOWER_S: [(&[u8], Kind); 1] = [(b"spin", Kind::Spin)];
+const LOWER_S: [(&[u8], Kind); 1] = [word::SPIN];
 
-const LOWER_P: [(&[u8], Kind); 3] = [
-    (b"push", Kind::Push),
-    (b"pre", Kind::Pre),
-    (b"post", Kind::Post),
-];
+const LOWER_P: [(&[u8], Kind); 3] = [word::PUSH, word::PRE, word::POST];
 
-const LOWER_Q: [(&[u8], Kind); 1] = [(b"queue", Kind::Queue)];
+const LOWER_Q: [(&[u8], Kind); 1] = [word::QUEUE];
 
 const LOWER_C: [(&[u8], Kind); 12] = [
-    (b"canceled", Kind::Canceled),
-    (b"create", Kind::Create),
-    (b"cleanup", Kind::Cleanup),
-    (b"context", Kind::Context),
-    (b"c0", Kind::C0),
-    (b"c1", Kind::C1),
-    (b"c2", Kind::C2),
-    (b"c3", Kind::C3),
-    (b"c4", Kind::C4),
-    (b"c5", Kind::C5),
-    (b"c6", Kind::C6),
-    (b"c7", Kind::C7),
+    word::CANCELED,
+    word::CREATE,
+    word::CLEANUP,
+    word::CONTEXT,
+    word::C0,
+    word::C1,
+    word::C2,
+    word::C3,
+    word::C4,
+    word::C5,
+    word::C6,
+    word::C7,
 ];
 
 const LOWER_D: [(&[u8], Kind); 4] = [
-    (b"deferred_pre", Kind::DeferredPre),
-    (b"deferred_post", Kind::DeferredPost),
-    (b"data", Kind::Data),
-    (b"draining", Kind::Draining),
+    word::DEFERRED_PRE,
+    word::DEFERRED_POST,
+    word::DATA,
+    word::DRAINING,
 ];
 
-const LOWER_G: [(&[u8], Kind); 1] = [(b"generic", Kind::Generic)];
+const LOWER_G: [(&[u8], Kind); 1] = [word::GENERIC];
 
-const LOWER_R: [(&[u8], Kind); 3] = [
-    (b"read", Kind::Read),
-    (b"repeat", Kind::Repeat),
-    (b"return", Kind::Return),
-];
+const LOWER_R: [(&[u8], Kind); 3] = [word::READ, word::REPEAT, word::RETURN];
 
-const LOWER_W: [(&[u8], Kind); 1] = [(b"write", Kind::Write)];
+const LOWER_W: [(&[u8], Kind); 1] = [word::WRITE];
 
-const LOWER_V: [(&[u8], Kind); 1] = [(b"value", Kind::Value)];
+const LOWER_V: [(&[u8], Kind); 1] = [word::VALUE];
 
-const UPPER_N: [(&[u8], Kind); 2] = [(b"NULL", Kind::Null), (b"NO_CALLBACK", Kind::NoCallback)];
+const UPPER_N: [(&[u8], Kind); 2] = [word::NULL, word::NO_CALLBACK];
 
-const LOWER_I: [(&[u8], Kind); 2] = [(b"if", Kind::If), (b"irp", Kind::Irp)];
+const LOWER_I: [(&[u8], Kind); 2] = [word::IF, word::IRP];
 
-const LOWER_E: [(&[u8], Kind); 1] = [(b"else", Kind::Else)];
+const LOWER_E: [(&[u8], Kind); 1] = [word::ELSE];
 
-const UPPER_W: [(&[u8], Kind); 1] = [(b"WITH_CALLBACK", Kind::WithCallback)];
+const UPPER_W: [(&[u8], Kind); 1] = [word::WITH_CALLBACK];
 
 const UPPER_S: [(&[u8], Kind); 7] = [
-    (b"SYNCHRONIZE", Kind::Synchronize),
-    (b"STATUS_SUCCESS", Kind::StatusSuccess),
-    (b"STATUS_ACCESS_DENIED", Kind::StatusAccessDenied),
-    (b"STATUS_CANCELLED", Kind::StatusCancelled),
-    (
-        b"STATUS_INSUFFICIENT_RESOURCES",
-        Kind::StatusInsufficientResources,
-    ),
-    (b"STATUS_INVALID_PARAMETER", Kind::StatusInvalidParameter),
-    (b"STATUS_PENDING", Kind::StatusPending),
+    word::SYNCHRONIZE,
+    word::STATUS_SUCCESS,
+    word::STATUS_ACCESS_DENIED,
+    word::STATUS_CANCELLED,
+    word::STATUS_INSUFFICIENT_RESOURCES,
+    word::STATUS_INVALID_PARAMETER,
+    word::STATUS_PENDING,
 ];
 
-const UPPER_P: [(&[u8], Kind); 1] = [(b"PENDING", Kind::Pending)];
+const UPPER_P: [(&[u8], Kind); 1] = [word::PENDING];
 
-const UPPER_D: [(&[u8], Kind); 1] = [(b"DISALLOW_FASTIO", Kind::DisallowFastIo)];
+const UPPER_D: [(&[u8], Kind); 1] = [word::DISALLOW_FAST_IO];
 
-const UPPER_C: [(&[u8], Kind); 1] = [(b"COMPLETE", Kind::Complete)];
+const UPPER_C: [(&[u8], Kind); 1] = [word::COMPLETE];
 
 const UPPER_F: [(&[u8], Kind); 20] = [
-    (b"FINISHED_PROCESSING", Kind::FinishedProcessing),
-    (b"FltAllocateContext", Kind::AllocateContext),
-    (b"FltGetStreamContext", Kind::GetStreamContext),
-    (b"FltGetInstanceContext", Kind::GetInstanceContext),
-    (b"FltSetStreamContext", Kind::SetStreamContext),
-    (b"FltSetInstanceContext", Kind::SetInstanceContext),
-    (b"FltDeleteStreamContext", Kind::DeleteStreamContext),
-    (b"FltDeleteInstanceContext", Kind::DeleteInstanceContext),
-    (b"FltCbdqInsertIo", Kind::InsertIo),
-    (b"FltCbdqRemoveNextIo", Kind::RemoveNextIo),
-    (b"FltQueueDeferredIoWorkItem", Kind::QueueDeferredIoWorkItem),
-    (b"FltQueueGenericWorkItem", Kind::QueueGenericWorkItem),
-    (b"FltDeleteContext", Kind::DeleteContext),
-    (b"FltReferenceContext", Kind::ReferenceContext),
-    (b"FltReleaseContext", Kind::ReleaseContext),
-    (b"FltAcquirePushLockExclusive", Kind::AcquirePushLock),
-    (b"FltAcquirePushLockShared", Kind::AcquirePushLockShared),
-    (b"FltReleasePushLock", Kind::ReleasePushLock),
-    (
-        b"FltCompletePendedPreOperation",
-        Kind::CompletePendedPreOperation,
-    ),
-    (
-        b"FltCompletePendedPostOperation",
-        Kind::CompletePendedPostOperation,
-    ),
+    word::FINISHED_PROCESSING,
+    word::ALLOCATE_CONTEXT,
+    word::GET_STREAM_CONTEXT,
+    word::GET_INSTANCE_CONTEXT,
+    word::SET_STREAM_CONTEXT,
+    word::SET_INSTANCE_CONTEXT,
+    word::DELETE_STREAM_CONTEXT,
+    word::DELETE_INSTANCE_CONTEXT,
+    word::INSERT_IO,
+    word::REMOVE_NEXT_IO,
+    word::QUEUE_DEFERRED_IO_WORK_ITEM,
+    word::QUEUE_GENERIC_WORK_ITEM,
+    word::DELETE_CONTEXT,
+    word::REFERENCE_CONTEXT,
+    word::RELEASE_CONTEXT,
+    word::ACQUIRE_PUSH_LOCK,
+    word::ACQUIRE_PUSH_LOCK_SHARED,
+    word::RELEASE_PUSH_LOCK,
+    word::COMPLETE_PENDED_PRE_OPERATION,
+    word::COMPLETE_PENDED_POST_OPERATION,
 ];
 
-const UPPER_M: [(&[u8], Kind); 1] = [(b"MORE_PROCESSING_REQUIRED", Kind::MoreProcessingRequired)];
+const UPPER_M: [(&[u8], Kind); 1] = [word::MORE_PROCESSING_REQUIRED];
 
 const UPPER_K: [(&[u8], Kind); 3] = [
-    (b"KEEP_IF_EXISTS", Kind::KeepIfExists),
-    (b"KeAcquireSpinLock", Kind::AcquireSpinLock),
-    (b"KeReleaseSpinLock", Kind::ReleaseSpinLock),
+    word::KEEP_IF_EXISTS,
+    word::ACQUIRE_SPIN_LOCK,
+    word::RELEASE_SPIN_LOCK,
 ];
 
-const UPPER_R: [(&[u8], Kind); 1] = [(b"REPLACE_IF_EXISTS", Kind::ReplaceIfExists)];
+const UPPER_R: [(&[u8], Kind); 1] = [word::REPLACE_IF_EXISTS];
 
-const LOWER_O: [(&[u8], Kind); 5] = [
-    (b"old", Kind::Old),
-    (b"o0", Kind::O0),
-    (b"o1", Kind::O1),
-    (b"o2", Kind::O2),
-    (b"o3", Kind::O3),
-];
+const LOWER_O: [(&[u8], Kind); 5] = [word::OLD, word::O0, word::O1, word::O2, word::O3];
 
-const UPPER_E: [(&[u8], Kind); 2] = [
-    (b"ExAcquireFastMutex", Kind::AcquireFastMutex),
-    (b"ExReleaseFastMutex", Kind::ReleaseFastMutex),
-];
+const UPPER_E: [(&[u8], Kind); 2] = [word::ACQUIRE_FAST_MUTEX, word::RELEASE_FAST_MUTEX];
 
 const LOWER_N: [(&[u8], Kind); 8] = [
-    (b"n0", Kind::N0),
-    (b"n1", Kind::N1),
-    (b"n2", Kind::N2),
-    (b"n3", Kind::N3),
-    (b"n4", Kind::N4),
-    (b"n5", Kind::N5),
-    (b"n6", Kind::N6),
-    (b"n7", Kind::N7),
+    word::N0,
+    word::N1,
+    word::N2,
+    word::N3,
+    word::N4,
+    word::N5,
+    word::N6,
+    word::N7,
 ];
 
 const CALLS_A: [(&[u8], Kind); 3] = [
-    (b"FltAllocateContext", Kind::AllocateContext),
-    (b"FltAcquirePushLockExclusive", Kind::AcquirePushLock),
-    (b"FltAcquirePushLockShared", Kind::AcquirePushLockShared),
+    word::ALLOCATE_CONTEXT,
+    word::ACQUIRE_PUSH_LOCK,
+    word::ACQUIRE_PUSH_LOCK_SHARED,
 ];
 
-const CALLS_G: [(&[u8], Kind); 2] = [
-    (b"FltGetStreamContext", Kind::GetStreamContext),
-    (b"FltGetInstanceContext", Kind::GetInstanceContext),
-];
+const CALLS_G: [(&[u8], Kind); 2] = [word::GET_STREAM_CONTEXT, word::GET_INSTANCE_CONTEXT];
 
 const CALLS_R: [(&[u8], Kind); 3] = [
-    (b"FltReferenceContext", Kind::ReferenceContext),
-    (b"FltReleaseContext", Kind::ReleaseContext),
-    (b"FltReleasePushLock", Kind::ReleasePushLock),
+    word::REFERENCE_CONTEXT,
+    word::RELEASE_CONTEXT,
+    word::RELEASE_PUSH_LOCK,
 ];
 
 /// The words that begin with `Flt` and a letter, in the order of `keywords`. All that begin with `F` if few calls or none have that letter.

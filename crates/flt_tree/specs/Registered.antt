@@ -1,8 +1,8 @@
 -- What a filter is registered for, and the numbers of its routines, from 0. Source: FLT_REGISTRATION in the driver kit.
 use Rattle.std.specs.Prelude.{ℕ, Bool, not, ◌||◌, List, [], ◌∷◌}
 use Rattle.std.specs.List.{list_all, position_or_len}
+use Rattle.flt_rules.specs.Place.{all_operations}
 use Rattle.flt_rules.specs.declared.place.Operation.{Operation}
-use Rattle.flt_rules.specs.declared.place.Operation.TheVariants.{Create, Read, Write, Cleanup}
 use Rattle.flt_tree.specs.Declarations.{same_event, has_event}
 use Rattle.flt_tree.specs.Filter.{is_named}
 use Rattle.flt_tree.specs.declared.filter.Callback.{Callback}
@@ -36,7 +36,7 @@ is_paired cs kind = not (has_pre cs kind) || has_post cs kind
 
 -- each operation with a pre callback has a post callback
 abbrev pub are_paired : List Callback → Bool
-are_paired cs = list_all (is_paired cs) (Create ∷ Read ∷ Write ∷ Cleanup ∷ [])
+are_paired cs = list_all (is_paired cs) all_operations
 
 -- ---- routines
 

@@ -1,12 +1,11 @@
 -- Statuses that aren't legal (R06): what is wrong with one, and how to fix it. This project's own program.
-use Rattle.std.specs.Prelude.{Bool, true, false, not, ◌&&◌, if◌then◌else◌, List, [], ◌∷◌, ◌++◌, codes, Option, Some, None}
+use Rattle.std.specs.Prelude.{Bool, true, false, not, ◌&&◌, if◌then◌else◌, List, [], ◌∷◌, ◌++◌, codes, find, Option, Some, None}
 use Rattle.std.specs.List.{concat, list_any}
-use Rattle.flt_rules.specs.Place.{answers, fits_stage, is_pre_create, same_operation}
+use Rattle.flt_rules.specs.Place.{all_operations, answers, fits_stage, is_always_irp, is_pre_create, operation_name, same_operation}
 use Rattle.flt_rules.specs.Status.{is_complete, status_row}
 use Rattle.flt_rules.specs.declared.call.Call.{Call}
 use Rattle.flt_rules.specs.declared.call.Call.TheVariants.{InsertIo, QueueDeferredIoWorkItem}
 use Rattle.flt_rules.specs.declared.place.Operation.{Operation}
-use Rattle.flt_rules.specs.declared.place.Operation.TheVariants as op
 use Rattle.flt_rules.specs.declared.place.Place.{Place}
 use Rattle.flt_rules.specs.declared.place.Place.TheVariants as callback
 use Rattle.flt_rules.specs.declared.place.Stage.TheVariants as stage
@@ -27,7 +26,7 @@ use Rattle.flt_explain.specs.declared.finding.Subject.TheVariants as about
 use Rattle.flt_explain_details.specs.Advice.Reasons.{reason, reason_told}
 use Rattle.flt_explain_details.specs.Case.{Circumstances, head, operation_at, place, status_in}
 use Rattle.flt_explain_details.specs.Case as known
-use Rattle.flt_explain_details.specs.Names.{operation_name, status_name}
+use Rattle.flt_explain_details.specs.Names.{status_name}
 use Rattle.flt_explain_details.specs.Page.{marked, quoted}
 use Rattle.flt_explain_details.specs.declared.advice.reasons.Reason.{Reason}
 use Rattle.flt_explain_details.specs.declared.advice.statuses.Wrong.{Wrong}
@@ -58,12 +57,7 @@ is_unpaired g o = has_pre g o && not (has_post g o)
 
 -- the first operation of which that is so
 unfoldable pub unpaired : Graph → Option Operation
-unpaired g =
-    if is_unpaired g op.Create then Some op.Create
-    else (if is_unpaired g op.Read then Some op.Read
-    else (if is_unpaired g op.Write then Some op.Write
-    else (if is_unpaired g op.Cleanup then Some op.Cleanup
-    else None)))
+unpaired g = find (is_unpaired g) all_operations
 
 -- ---- what is wrong
 
@@ -84,12 +78,6 @@ wrong_anyhow x st =
     if not (answers (place x)) then Some NoneIsReturned
     else (if not (fits_stage (place x) (status_row (word_of st)).stage) then Some (OtherStage (status_row (word_of st)).stage)
     else wrong_of_operation x (operation_at (place x)) st)
-
--- a create and a cleanup are always IRPs
-abbrev pub is_always_irp : Operation → Bool
-is_always_irp op.Create = true
-is_always_irp op.Cleanup = true
-is_always_irp _ = false
 
 abbrev pub fast_io_refused : Option Operation → Wrong
 fast_io_refused None = Irp

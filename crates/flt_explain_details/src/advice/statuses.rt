@@ -8,7 +8,7 @@ ghost use Rattle.flt_explain_details.specs.Page.{Writes};
 
 use crate::advice::reasons::{reason_of, tell_reason};
 use crate::case::Case;
-use crate::names::{operation_name, status_name};
+use crate::names::status_name;
 use crate::page::{Page, Part};
 use flt_explain::Subject;
 use flt_graph::{Call, Graph, Instruction, Operation, OperationVariable, Place, Status};
@@ -95,17 +95,10 @@ fn is_unpaired(graph: &Graph, operation: Operation) -> bool
 fn unpaired(graph: &Graph) -> Option<Operation>
     ensures { result ≡ spec.unpaired graph.now }
 {
-    if is_unpaired(graph, Operation::Create) {
-        Some(Operation::Create)
-    } else if is_unpaired(graph, Operation::Read) {
-        Some(Operation::Read)
-    } else if is_unpaired(graph, Operation::Write) {
-        Some(Operation::Write)
-    } else if is_unpaired(graph, Operation::Cleanup) {
-        Some(Operation::Cleanup)
-    } else {
-        None
-    }
+    Operation::all()
+        .iter()
+        .copied()
+        .find(|operation| is_unpaired(graph, *operation))
 }
 
 // ---- what is wrong
@@ -145,18 +138,12 @@ fn wrong_anyhow(case: &Case<'_>, status: Status) -> Option<Wrong>
     }
 }
 
-fn is_always_irp(operation: Operation) -> bool
-    ensures { result ≡ spec.is_always_irp operation }
-{
-    matches!(operation, Operation::Create | Operation::Cleanup)
-}
-
 /// The mistake in a status that refuses fast I/O.
 fn fast_io_refused(operation: Option<Operation>) -> Wrong
     ensures { result ≡ spec.fast_io_refused operation }
 {
     match operation {
-        Some(operation) if is_always_irp(operation) => Wrong::NeverFast(operation),
+        Some(operation) if operation.is_always_irp() => Wrong::NeverFast(operation),
         _ => Wrong::Irp,
     }
 }
@@ -328,7 +315,7 @@ fn tell_needing(
     ensures { Writes result page.old page.new (spec.needing (of_case case.now) before.now operation after.now) }
 {
     tell_not_legal(page, case)?;
-    page.texts(&[before, operation_name(operation), after])?;
+    page.texts(&[before, operation.name(), after])?;
     Ok(())
 }
 
@@ -457,7 +444,7 @@ fn tell_pairing(page: &mut Page, operation: Operation, verb: &'static str) -> Re
 {
     page.texts(&[
         "add a `post ",
-        operation_name(operation),
+        operation.name(),
         "`, or ",
         verb,
         " `NO_CALLBACK`",

@@ -2,6 +2,7 @@
 use Rattle.std.proofs.Common.{◌≡◌, ℕ, ◌+◌, Bool, true, false, List, [], Option, Some, None, length, subst, refl}
 use Rattle.std.proofs.Math.ListN.{set}
 use Rattle.std.specs.Prelude.{not, ◌&&◌, ◌||◌, nat_lt, if◌then◌else◌, find}
+use Rattle.flt_rules.specs.Place.{fits_mode}
 use Rattle.flt_rules.specs.declared.place.Operation.{Operation}
 use Rattle.flt_tree.specs.declared.filter.Filter.{Filter}
 use Rattle.flt_tree.specs.declared.filter.Statement.{Statement}
@@ -9,7 +10,7 @@ use Rattle.flt_model.specs.declared.moves.Move.{Move}
 use Rattle.flt_model.specs.declared.moves.Move.TheVariants.{Arrive, Pre, Skip, Lower, Post, Cancel, Canceled}
 use Rattle.flt_model.specs.declared.moves.Move.TheVariants.{Work, Detach, Drain, Unlink, Detached}
 use Rattle.flt_model.specs.Effects.{Step, freed_by_drop, after_unlink}
-use Rattle.flt_model.specs.Moves.{stores, starts, with_visit, with_arrival, fits_mode, calls_pre, pre_at, pre_of, skip_at}
+use Rattle.flt_model.specs.Moves.{stores, starts, with_visit, with_arrival, calls_pre, pre_at, pre_of, skip_at}
 use Rattle.flt_model.specs.Moves.{carried_out, lower_at, last_frame, post_by, post_at, is_done, is_entry_of, other_entries}
 use Rattle.flt_model.specs.Moves.{canceled_by, work_by, is_frame_of, drain_by, unlink_by, is_drained, make}
 use Rattle.flt_model.specs.Program.{filter_of}

@@ -8,6 +8,7 @@ use Rattle.std.proofs.Common.{None, ap, sym, subst, refl, ◌∙◌, arith, appe
 use Rattle.std.specs.Prelude.{not, ◌&&◌, ◌||◌, if◌then◌else◌, is_some}
 use Rattle.std.proofs.Math.ListN.{set}
 use Rattle.std.proofs.lemmas.Bool.{and_from, and_parts, not-false}
+use Rattle.flt_rules.proofs.Operations.{of_each}
 use Rattle.flt_rules.specs.Columns.{has_place}
 use Rattle.flt_rules.specs.Place.{same_stage}
 use Rattle.flt_rules.specs.Table.{complete_places}
@@ -15,7 +16,6 @@ use Rattle.flt_rules.specs.Status.{status_row, is_complete, is_with_callback}
 use Rattle.flt_rules.specs.declared.call.Call.TheVariants as call
 use Rattle.flt_rules.specs.declared.columns.Places.TheVariants as places
 use Rattle.flt_rules.specs.declared.place.Operation.{Operation}
-use Rattle.flt_rules.specs.declared.place.Operation.TheVariants.{Create, Read, Write, Cleanup}
 use Rattle.flt_rules.specs.declared.place.Place.{Place}
 use Rattle.flt_rules.specs.declared.place.Place.TheVariants as place
 use Rattle.flt_rules.specs.declared.place.Stage.{Stage}
@@ -76,20 +76,7 @@ use Rattle.flt_sound.proofs.sums.Touching.{use_clean, lost_clean}
 
 -- where every operation with a pre callback has a post callback, one of them has
 pair_at : (cs : List Callback) (kind : Operation) → are_paired cs ≡ true → has_pre cs kind ≡ true → has_post cs kind ≡ true
-pair_at cs kind e h =
-    let one = and_parts (is_paired cs Create) (is_paired cs Read && (is_paired cs Write && (is_paired cs Cleanup && true))) e in
-    let two = and_parts (is_paired cs Read) (is_paired cs Write && (is_paired cs Cleanup && true)) one.1 in
-    let three = and_parts (is_paired cs Write) (is_paired cs Cleanup && true) two.1 in
-    let four = and_parts (is_paired cs Cleanup) true three.1 in
-    implied (has_pre cs kind) (has_post cs kind) (by kind one.0 two.0 three.0 four.0) h
-  where
-    by : (kind : Operation) → is_paired cs Create ≡ true → is_paired cs Read ≡ true → is_paired cs Write ≡ true →
-        is_paired cs Cleanup ≡ true →
-        is_paired cs kind ≡ true
-    by Create a b c d = a
-    by Read a b c d = b
-    by Write a b c d = c
-    by Cleanup a b c d = d
+pair_at cs kind e h = implied (has_pre cs kind) (has_post cs kind) (of_each (is_paired cs) e kind) h
 
 -- of the statuses that may be handed on, WITH_CALLBACK alone has a context
 handed_with_callback : (st : Status) (c : ContextVariable) → context_of st ≡ Some c → (status_row (word_of st)).handed ≡ true →

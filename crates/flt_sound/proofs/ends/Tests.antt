@@ -1,11 +1,6 @@
--- Small facts of tests, and that operations that are the same are equal.
+-- Small facts of tests.
 use Rattle.std.proofs.Common.{◌≡◌, Bool, true, false, refl}
 use Rattle.std.specs.Prelude.{not, ◌||◌}
-use Rattle.flt_rules.specs.Place.{same_operation}
-use Rattle.flt_rules.specs.declared.place.Operation.{Operation}
-use Rattle.flt_rules.specs.declared.place.Operation.TheVariants.{Create, Read, Write, Cleanup}
-
--- ---- tests
 
 -- what a thing implies is so where the thing is
 pub implied : (x y : Bool) → (not x || y) ≡ true → x ≡ true → y ≡ true
@@ -23,24 +18,3 @@ pub allowed : (checked so wanted : Bool) → (checked ≡ true → so ≡ true) 
 allowed checked so false f h = refl
 allowed true so true f h = f refl
 allowed false so true f h = absurd (cc)
-
--- ---- operations
-
--- operations that are the same are equal
-pub same_op : (a b : Operation) → same_operation a b ≡ true → a ≡ b
-same_op Create Create e = refl
-same_op Create Read e = absurd (cc)
-same_op Create Write e = absurd (cc)
-same_op Create Cleanup e = absurd (cc)
-same_op Read Create e = absurd (cc)
-same_op Read Read e = refl
-same_op Read Write e = absurd (cc)
-same_op Read Cleanup e = absurd (cc)
-same_op Write Create e = absurd (cc)
-same_op Write Read e = absurd (cc)
-same_op Write Write e = refl
-same_op Write Cleanup e = absurd (cc)
-same_op Cleanup Create e = absurd (cc)
-same_op Cleanup Read e = absurd (cc)
-same_op Cleanup Write e = absurd (cc)
-same_op Cleanup Cleanup e = refl

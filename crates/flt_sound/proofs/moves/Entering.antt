@@ -3,12 +3,13 @@
 -- p is the program, f a filter, c a callback, q its place; `gift` is the visit that it is given and `arg` the context, if any.
 use Rattle.std.proofs.Common.{◌≡◌, ℕ, zero, suc, ◌<◌, Bool, true, false, List, [], ◌∷◌, ◌++◌, length}
 use Rattle.std.proofs.Common.{replicate, Option, Some, None, ap, sym, subst, refl, ◌∙◌, arith}
-use Rattle.std.specs.Prelude.{slice_get, ◌||◌}
+use Rattle.std.specs.Prelude.{if◌then◌else◌, not, slice_get, ◌||◌}
 use Rattle.std.proofs.lemmas.Option.{slice_get_within}
+use Rattle.flt_rules.proofs.Operations.{same_is}
+use Rattle.flt_rules.specs.Place.{fits_mode, is_always_irp}
 use Rattle.flt_rules.specs.declared.place.Mode.{Mode}
 use Rattle.flt_rules.specs.declared.place.Mode.TheVariants.{Irp, Fast}
 use Rattle.flt_rules.specs.declared.place.Operation.{Operation}
-use Rattle.flt_rules.specs.declared.place.Operation.TheVariants.{Create, Read, Write, Cleanup}
 use Rattle.flt_rules.specs.declared.place.Place.{Place}
 use Rattle.flt_rules.specs.declared.place.Place.TheVariants as place
 use Rattle.flt_tree.specs.Filter.{head_place}
@@ -20,15 +21,14 @@ use Rattle.flt_tree.specs.declared.filter.Statement.{Statement}
 use Rattle.flt_graph.specs.Graph.{callback_at}
 use Rattle.flt_graph.specs.Graph as graph
 use Rattle.flt_abs.specs.Entry.{entry}
+use Rattle.flt_abs.specs.Sets.{either_mode, fast_alone, irp_alone}
 use Rattle.flt_abs.specs.State.{Situation, Means, has_mode, has_draining}
-use Rattle.flt_model.specs.Moves.{fits_mode}
 use Rattle.flt_model.specs.Program.{filter_at, callbacks_at, no_filter, has_head, body_for, is_pre_of, is_post_of, is_canceled}
 use Rattle.flt_model.specs.Variables.{starting}
 use Rattle.flt_sound.specs.Soundness.{AreAccepted}
 use Rattle.flt_sound.proofs.sums.Shadows.{Unset, given, Shadow, plain, situation}
 use Rattle.flt_sound.proofs.points.Placed.{Laws, Placed}
 use Rattle.flt_sound.proofs.calls.Removing.{given_value}
-use Rattle.flt_sound.proofs.ends.Tests.{same_op}
 
 -- ---- the shadow of a new activation
 
@@ -60,27 +60,25 @@ Enters place.DeferredPost mode draining (Some v) arg = (mode ≡ Irp) × (draini
 Enters place.Generic mode draining None arg = (mode ≡ Irp) × (draining ≡ false)
 Enters _ _ _ _ _ = ⊥
 
+-- each operation comes as an I/O request packet
+has_irp : (always : Bool) → has_mode (if always then irp_alone else either_mode irp_alone fast_alone) Irp ≡ true
+has_irp true = refl
+has_irp false = refl
+
+-- one that isn't always one comes as fast I/O
+has_fast : (always : Bool) → not always ≡ true → has_mode (if always then irp_alone else either_mode irp_alone fast_alone) Fast ≡ true
+has_fast true h = absurd (cc)
+has_fast false h = refl
+
 -- the modes of a pre callback's entry state are those of its operations
 pre_modes : (kind : Operation) (mode : Mode) → fits_mode kind mode ≡ true → has_mode (entry (place.Pre kind)).modes mode ≡ true
-pre_modes Create Irp h = refl
-pre_modes Create Fast h = absurd (cc)
-pre_modes Read Irp h = refl
-pre_modes Read Fast h = refl
-pre_modes Write Irp h = refl
-pre_modes Write Fast h = refl
-pre_modes Cleanup Irp h = refl
-pre_modes Cleanup Fast h = absurd (cc)
+pre_modes kind Irp h = has_irp (is_always_irp kind)
+pre_modes kind Fast h = has_fast (is_always_irp kind) h
 
 -- the modes of a post callback's entry state are those of its operations
 post_modes : (kind : Operation) (mode : Mode) → fits_mode kind mode ≡ true → has_mode (entry (place.Post kind)).modes mode ≡ true
-post_modes Create Irp h = refl
-post_modes Create Fast h = absurd (cc)
-post_modes Read Irp h = refl
-post_modes Read Fast h = refl
-post_modes Write Irp h = refl
-post_modes Write Fast h = refl
-post_modes Cleanup Irp h = refl
-post_modes Cleanup Fast h = absurd (cc)
+post_modes kind Irp h = has_irp (is_always_irp kind)
+post_modes kind Fast h = has_fast (is_always_irp kind) h
 
 -- a post callback may be entered for draining and otherwise
 post_draining : (kind : Operation) (draining : Bool) → has_draining (entry (place.Post kind)).draining draining ≡ true
@@ -144,7 +142,7 @@ found test (c ∷ cs) h = by (test c.head) refl h (found test cs)
 
 -- a head of a pre callback of an operation is of that place
 pub pre_place : (kind : Operation) (h : Head) → is_pre_of kind h ≡ true → place.Pre kind ≡ head_place h
-pre_place kind (head.Pre own) e = ap place.Pre (sym (same_op own kind e))
+pre_place kind (head.Pre own) e = ap place.Pre (sym (same_is own kind e))
 pre_place kind (head.Post own) e = absurd (cc)
 pre_place kind head.Canceled e = absurd (cc)
 pre_place kind (head.DeferredPre name) e = absurd (cc)
@@ -154,7 +152,7 @@ pre_place kind (head.Generic name) e = absurd (cc)
 -- a head of a post callback of an operation is of that place
 pub post_place : (kind : Operation) (h : Head) → is_post_of kind h ≡ true → place.Post kind ≡ head_place h
 post_place kind (head.Pre own) e = absurd (cc)
-post_place kind (head.Post own) e = ap place.Post (sym (same_op own kind e))
+post_place kind (head.Post own) e = ap place.Post (sym (same_is own kind e))
 post_place kind head.Canceled e = absurd (cc)
 post_place kind (head.DeferredPre name) e = absurd (cc)
 post_place kind (head.DeferredPost name) e = absurd (cc)

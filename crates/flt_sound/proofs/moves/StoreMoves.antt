@@ -10,12 +10,13 @@ use Rattle.std.proofs.lemmas.Bool.{cases_eq, cases_lt}
 use Rattle.std.proofs.lemmas.List.{length-append, set_past}
 use Rattle.std.proofs.lemmas.List.Sums.{sum_by-set, sum_by_push}
 use Rattle.std.proofs.lemmas.List.Quantifiers.{position-Some}
+use Rattle.flt_rules.specs.Place.{fits_mode}
 use Rattle.flt_rules.specs.declared.place.Mode.{Mode}
 use Rattle.flt_rules.specs.declared.place.Operation.{Operation}
 use Rattle.flt_tree.specs.declared.filter.Filter.{Filter}
 use Rattle.flt_model.specs.declared.moves.Key.{Key}
 use Rattle.flt_model.specs.Effects.{Step, freed_by_drop, after_unlink}
-use Rattle.flt_model.specs.Moves.{with_arrival, fits_mode, arrive, calls_pre, skip_at, carried_out, lower_at}
+use Rattle.flt_model.specs.Moves.{with_arrival, arrive, calls_pre, skip_at, carried_out, lower_at}
 use Rattle.flt_model.specs.Moves.{is_done, cancel, detach, unlink_by, unlink, is_drained, detached, stores}
 use Rattle.flt_model.specs.Runs.{Moment}
 use Rattle.flt_model.specs.World as world

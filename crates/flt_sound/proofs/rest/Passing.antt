@@ -9,6 +9,7 @@ use Rattle.std.proofs.Math.Seq.{get_or-append_seam}
 use Rattle.std.proofs.lemmas.Bool.{and_parts, cases_eq, cases_lt}
 use Rattle.std.proofs.lemmas.List.{get_or_past, get_or-set_same, get_or-set_other, length-set}
 use Rattle.std.proofs.lemmas.List.Sums.{sum_by-cons, sum_by_push, get_or-le-sum_by}
+use Rattle.flt_rules.specs.Place.{fits_mode}
 use Rattle.flt_rules.specs.declared.place.Mode.{Mode}
 use Rattle.flt_rules.specs.declared.place.Operation.{Operation}
 use Rattle.flt_rules.specs.declared.place.Stage.TheVariants as stage
@@ -18,7 +19,7 @@ use Rattle.flt_model.specs.declared.event.Event.{Event}
 use Rattle.flt_model.specs.declared.moves.Move.{Move}
 use Rattle.flt_model.specs.declared.moves.Move.TheVariants as moves
 use Rattle.flt_model.specs.Effects.{Step, after_unlink, freed_by_drop}
-use Rattle.flt_model.specs.Moves.{arrive, with_arrival, with_visit, fits_mode, calls_pre, pre_at, skip_at, lower_at}
+use Rattle.flt_model.specs.Moves.{arrive, with_arrival, with_visit, calls_pre, pre_at, skip_at, lower_at}
 use Rattle.flt_model.specs.Moves.{carried_out, post_of, post_by, post_at, last_frame, without_last, is_done, cancel}
 use Rattle.flt_model.specs.Moves.{is_entry_of, other_entries, canceled_by, canceled, work_by, detach, is_frame_of}
 use Rattle.flt_model.specs.Moves.{drain_by, drain, unlink_by, is_drained, detached, starts, stores, make}

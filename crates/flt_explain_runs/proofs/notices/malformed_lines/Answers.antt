@@ -11,6 +11,6 @@ returns c = record {
   many = refl;
   message = c.as_slice.ensures.value;
   meant = c.as_slice-2.ensures.value;
-  help = refl;
+  help = c.as_str.ensures.value;
   whole = c.in_ok-lines.ensures;
 }

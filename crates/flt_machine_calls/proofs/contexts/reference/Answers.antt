@@ -14,7 +14,7 @@ returns-clause-planned c =
     let a = c.args.caller.now.activation in
     let x = c.context-named.result in
     let told : c.need.new.events.items ≡ event.Call a call.ReferenceContext ∷ (uses a (context x ∷ []) ++ empties a (context x ∷ [])) =
-    rw (c.in_ok-need.ensures.told, c.in_ok-push.ensures.items, c.new-events.ensures.items, c.context.ensures) refl in
+    rw (c.in_ok-need.ensures.added, c.in_ok-push.ensures.items, c.new-events.ensures.items, c.context.ensures) refl in
     answers_plainly c.args.store.now c.args.caller.now call.ReferenceContext c.need.new.events.items x
     (λ act. context_in act c.args.context) (λ y. context y ∷ [])
     (λ w y granted refused. calls.referenced w a c.args.output granted y) c.referenced.result

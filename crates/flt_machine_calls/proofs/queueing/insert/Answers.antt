@@ -22,6 +22,6 @@ returns-clause-own c =
     (λ plan. Follows c.args.store.now c.args.caller.now c.need_named.new.events.items plan effect) (λ plan. AreOwn a plan.events)
     (λ plan planned.
     owned_call c.args.store.now c.args.caller.now plan call.InsertIo [] c.need_named.new.events.items needs effect
-    (rw (c.in_ok-need_named.ensures.told, c.in_ok-push.ensures.items, c.new-events.ensures.items) refl)
+    (rw (c.in_ok-need_named.ensures.added, c.in_ok-push.ensures.items, c.new-events.ensures.items) refl)
     planned (tt, omega arith) (omega (arith, one_optional x)) (λ w. insert_up_to w a [] [] v x))
     c.insert_by.ensures.planned

@@ -21,7 +21,7 @@ returns-clause-own c =
     (λ plan. (s : _) → Follows s c.args.caller.now c.need_optional.new.events.items plan effect) (λ plan. AreOwn a plan.events)
     (λ plan planned.
     owned_call c.args.store.now c.args.caller.now plan call.QueueGenericWorkItem [] c.need_optional.new.events.items (optional x) effect
-    (rw (c.in_ok-need_optional.ensures.told, c.in_ok-push.ensures.items, c.new-events.ensures.items) refl)
+    (rw (c.in_ok-need_optional.ensures.added, c.in_ok-push.ensures.items, c.new-events.ensures.items) refl)
     (planned c.args.store.now) (tt, omega arith) (omega (arith, one_optional x))
     (λ w. queue_up_to w a c.args.routine c.args.grant [] [] x))
     c.queue_by.ensures.planned

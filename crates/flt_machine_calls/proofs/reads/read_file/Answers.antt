@@ -13,7 +13,7 @@ returns-clause-planned c =
     let a = c.args.caller.now.activation in
     let x = c.operation-visit.result in
     let told : c.need.new.events.items ≡ uses a (operation x ∷ []) ++ empties a (operation x ∷ []) =
-    rw (c.in_ok-need.ensures.told, c.new-events.ensures.items, c.operation.ensures) refl in
+    rw (c.in_ok-need.ensures.added, c.new-events.ensures.items, c.operation.ensures) refl in
     plans_read c.args.store.now c.args.caller.now c.file_read.result c.need.new.events.items x (λ act. operation_in act c.args.operation)
     (λ y. operation y ∷ [])
     (λ w y granted refused. reads.read_file_of w a c.args.number granted y) (λ rest. sym c.operation-visit.ensures) told

@@ -13,7 +13,7 @@ returns-clause-planned c =
     let a = c.args.caller.now.activation in
     let x = c.context-named.result in
     let told : c.need.new.events.items ≡ uses a (context x ∷ []) ++ empties a (context x ∷ []) =
-    rw (c.in_ok-need.ensures.told, c.new-events.ensures.items, c.context.ensures) refl in
+    rw (c.in_ok-need.ensures.added, c.new-events.ensures.items, c.context.ensures) refl in
     plans_read c.args.store.now c.args.caller.now c.value_read.result c.need.new.events.items x (λ act. context_in act c.args.context)
     (λ y. context y ∷ [])
     (λ w y granted refused. reads.read_value_of w a c.args.number granted y) (λ rest. sym c.context-named.ensures) told

@@ -16,7 +16,7 @@ returns-clause-planned c =
     let x = c.context-named.result in
     let value = c.args.value in
     let told : c.need.new.events.items ≡ uses a (context x ∷ []) ++ empties a (context x ∷ []) =
-    rw (c.in_ok-need.ensures.told, c.new-events.ensures.items, c.context.ensures) refl in
+    rw (c.in_ok-need.ensures.added, c.new-events.ensures.items, c.context.ensures) refl in
     λ actors activations granted refused h.
     let w = world_of c.args.store.now actors activations in
     let number = read_is (λ act. atom_value act value) c.args.caller.now actors activations c.atom.result h

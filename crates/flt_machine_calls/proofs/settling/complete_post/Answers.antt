@@ -12,7 +12,7 @@ use Rattle.flt_model.specs.World as machine
 use Rattle.flt_machine_calls.specs.Completing.{completes}
 use Rattle.flt_machine_calls.specs.Own.{AreOwn}
 use Rattle.flt_machine_calls.specs.Plans.{IsPlanned, Plans, TakesNone, world_of}
-use Rattle.flt_machine_calls.specs.declared.effects.CallOperands.{CallOperands}
+use Rattle.flt_model.specs.declared.effects.CallOperands.{CallOperands}
 use Rattle.flt_machine_calls.specs.declared.plans.Plan.{Plan}
 use Rattle.flt_machine_calls.specs.declared.settling.Completion.{Completion}
 use Rattle.flt_machine_calls.proofs.Called.{read_is}

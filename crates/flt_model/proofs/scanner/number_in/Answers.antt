@@ -1,4 +1,4 @@
-use Rattle.std.proofs.Common.{◌≡◌, ◌<◌, ◌≤◌, ◌+◌, ◌-◌, ◌++◌, length, drop, sym, arith, ◌∙◌}
+use Rattle.std.proofs.Common.{◌<◌, length, sym, arith, ◌∙◌}
 use Rattle.std.proofs.lemmas.Bool.{ltb-true, eq-eqb, ne_eqb}
 use Rattle.flt_model.proofs.ReadingSteps.{first_within, number_begins, number_ends, number_goes_on}
 use Rattle.flt_model.proofs.scanner.number_in.Goals as goal

@@ -1,4 +1,4 @@
-use Rattle.std.proofs.Common.{◌≡◌, ◌≤◌, ◌+◌, ◌-◌, ◌++◌, length, drop}
+use Rattle.std.proofs.Common.{◌≡◌, ◌≤◌, ◌-◌, ◌++◌, length, drop}
 use Rattle.flt_model.specs.Streams.{Text}
 use Rattle.flt_model.specs.JournalTextReading.{number, digits}
 use Rattle.flt_model.proofs.scanner.number_in.Given as goal

@@ -1,6 +1,6 @@
+use Rattle.flt_rules.specs.Place.{fits_mode}
 use Rattle.std.proofs.Common.{◌≡◌, ◌<◌, ◌&&◌, true, nat_lt, arith}
 use Rattle.std.proofs.lemmas.Bool.{and_parts}
-use Rattle.flt_model.specs.Moves.{fits_mode}
 use Rattle.flt_stack_crew.proofs.giving.give.Goals as goal
 
 pub arrive-requires-clause-mode : goal.arrive-requires-clause-mode

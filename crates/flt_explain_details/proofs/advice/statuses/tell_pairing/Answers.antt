@@ -3,4 +3,4 @@ use Rattle.flt_explain_details.proofs.advice.statuses.tell_pairing.Goals as goal
 
 pub returns : goal.returns
 unfolding pairing_help
-returns c = rw (← c.operation_name.ensures) c.texts.ensures
+returns c = rw (← c.name.ensures) c.texts.ensures

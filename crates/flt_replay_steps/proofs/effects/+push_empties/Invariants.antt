@@ -1,5 +1,0 @@
-use Rattle.std.proofs.Common.{length}
-use Rattle.flt_replay_steps.proofs.effects.+push_empties.Given as goal
-
-abbrev pub decreases-push_empties : goal.decreases-push_empties
-decreases-push_empties l = length l.needs.now

@@ -1,5 +1,0 @@
-use Rattle.std.proofs.Common.{length}
-use Rattle.flt_replay_steps.proofs.effects.+push_uses.Given as goal
-
-abbrev pub decreases-push_uses : goal.decreases-push_uses
-decreases-push_uses l = length l.needs.now
