@@ -9,13 +9,14 @@
 #       layout. Each report of a broken filter has a run, and `replay` says the same of the journal that `explain --journal` writes of it;
 #       of an accepted filter there is none. Ends with status 1 at any difference: another exit status, another output, a byte on the standard
 #       error, a journal that isn't legal, or a file of examples/ that no line of `expected` names and no compiler reads by
-#       `tools/compile-examples`.
+#       `tools/compile-examples`. It works on as many processors as there are.
 set -euo pipefail
 
 top=$(cd "$(dirname "$0")/.." && pwd)
 program=$(realpath -m "${1:-$top/crates/fltstack/out/fltstack}")
-work=$(mktemp -d)
-trap 'rm -rf "$work"' EXIT
+shares=$(nproc)
+works=$(mktemp -d)
+trap 'kill $(jobs -p) 2>/dev/null || true; rm -rf "$works"' EXIT
 cd "$top/examples"
 
 [ -x "$program" ] || {
@@ -23,10 +24,20 @@ cd "$top/examples"
     exit 1
 }
 
+# Of one share of the work, in a process of its own: its folder, its number, how many pieces there were, and what it counted.
+work=
+share=0
+pieces=0
 runs=0
 differences=0
 # The filters that have a certificate.
-accepted=()
+mapfile -t accepted < <(sed -n 's/^analyse \([^ ]*\) = 0 .*/\1/p' expected)
+
+# is_mine: whether the next piece of the work belongs to this share.
+is_mine() {
+    pieces=$((pieces + 1))
+    [ $((pieces % shares)) = "$share" ]
+}
 
 differs() {
     echo "$1" >&2
@@ -221,58 +232,80 @@ judges() {
     [ -n "$verdict" ] && judge "$1:$at" "$verdict" "${filters[@]}" || differs "$1: no journal at its end"
 }
 
-while IFS= read -r line; do
-    case $line in
-    '' | '#'*) ;;
-    *' = '[012]' '*)
-        words=${line%% = *}
-        rest=${line#* = }
-        answer=${rest#* }
-        echo " $words ${answer#@} " >>"$work/named"
-        wants "$words" "${rest%% *}" "${rest#* }"
-        case $words' '${rest%% *} in
-        'run '*' 0') is_legal "$words" ;;
-        'explain --'*) ;;
-        'explain '*.flt' 1') has_journal "$words" ;;
-        'analyse '*' 0')
-            accepted+=("${words#analyse }")
-            has_no_journal "${words#analyse }"
-            sweep "${words#analyse }"
-            ;;
-        esac
+# answers LINE: the program does what a line of `expected` says, and what else holds of such a run.
+answers() {
+    local line=$1 words rest
+    words=${line%% = *}
+    rest=${line#* = }
+    wants "$words" "${rest%% *}" "${rest#* }"
+    case $words' '${rest%% *} in
+    'run '*' 0') is_legal "$words" ;;
+    'explain --'*) ;;
+    'explain '*.flt' 1') has_journal "$words" ;;
+    'analyse '*' 0')
+        has_no_journal "${words#analyse }"
+        sweep "${words#analyse }"
         ;;
-    *) differs "expected has a line that can't be read: $line" ;;
     esac
-done <expected
+}
 
-# Each accepted filter above the next one.
-for ((number = 0; number + 1 < ${#accepted[@]}; number += 2)); do
-    sweep "${accepted[number]}" "${accepted[number + 1]}"
+# work_on SHARE: does the pieces of this share, and keeps what it counted.
+work_on() {
+    local line number workers file laid
+    share=$1
+    work=$works/$1
+    mkdir "$work"
+    while IFS= read -r line; do
+        case $line in
+        '' | '#'*) ;;
+        *' = '[012]' '*) ! is_mine || answers "$line" ;;
+        *) ! is_mine || differs "expected has a line that can't be read: $line" ;;
+        esac
+    done <expected
+    # Each accepted filter above the next one.
+    for ((number = 0; number + 1 < ${#accepted[@]}; number += 2)); do
+        ! is_mine || sweep "${accepted[number]}" "${accepted[number + 1]}"
+    done
+    for workers in 1 2 4 8 16; do
+        ! is_mine || all_lowered "$workers" 200 stream_context.flt
+    done
+    for file in verdicts/*; do
+        ! is_mine || judges "$file"
+    done
+    # Each text has its own layout.
+    if is_mine; then
+        runs=$((runs + 1))
+        laid=$("$program" format --check ./*.flt samples/*.flt warnings/*.flt 2>&1) || true
+        [ -z "$laid" ] || differs "format --check: $laid"
+    fi
+    echo "$runs $differences" >"$work/counted"
+}
+
+for ((number = 0; number < shares; number++)); do
+    work_on "$number" &
+done
+wait
+for ((number = 0; number < shares; number++)); do
+    read -r counted failed <"$works/$number/counted"
+    runs=$((runs + counted))
+    differences=$((differences + failed))
 done
 
-for workers in 1 2 4 8 16; do
-    all_lowered "$workers" 200 stream_context.flt
-done
-
-for file in verdicts/*; do
-    judges "$file"
-done
-
-# Each text has its own layout.
-runs=$((runs + 1))
-laid=$("$program" format --check ./*.flt samples/*.flt warnings/*.flt 2>&1) || true
-[ -z "$laid" ] || differs "format --check: $laid"
-
+# The words and the answers' files of each line.
+sed -n 's/^\([^#].*\) = [012] @\{0,1\}\(.*\)/ \1 \2 /p' expected >"$works/named"
 for file in * c/* samples/*; do
     case $file in
     README.md | expected | verdicts | cases | serve | c | c/kit.h | samples/*.c) ;;
-    *) grep -qF " $file " "$work/named" || differs "$file: no line of expected has it" ;;
+    *) grep -qF " $file " "$works/named" || differs "$file: no line of expected has it" ;;
     esac
 done
 
-[ "$differences" = 0 ] || {
+status=0
+if [ "$differences" = 0 ]; then
+    echo "$runs runs as expected"
+else
     echo "$differences differences in $runs runs" >&2
-    exit 1
-}
-echo "$runs runs as expected"
-"$top/tools/run-cases" "$@"
+    status=1
+fi
+"$top/tools/run-cases" ${1:+"$program"} || status=1
+exit "$status"

@@ -15,7 +15,8 @@ use flt_graph::Graph;
 use flt_rules::{MAX_CALLBACKS, Refusal, Rule};
 use sqlite_items::Items;
 use std::alloc::Global;
-use std::sync::ledger::Ledger;
+use std::marker::Brand;
+use std::sync::ledger::{Blank, Ledger};
 
 /// Whether a certificate can have as many callbacks and points as a graph. It can for each graph of a text.
 fn has_room(graph: &Graph) -> bool
@@ -66,6 +67,38 @@ pub fn analyse<L: Ledger, const CALLBACK: usize, const POINT: usize>(
         callbacks.push(walk_callback(alloc, graph, callback, ticks)?)?;
     }
     Ok(FullCert::new(callbacks).unwrap())
+}
+
+/// `analyse` in a ledger of its own.
+fn analyse_in<L: Ledger>(
+    alloc: Global,
+    graph: &Graph,
+    blank: Blank,
+) -> Result<FullCert, AnalyseFault>
+    requires name { blank.name ≡ L.name }
+    requires parts { blank.parts ≡ L.parts }
+    requires some { 0 < blank.parts }
+    ensures covers { IfOk result (λ c. Covers graph.now c) }
+    ensures least { IfOk result (λ c. spec.IsLeast graph.now c) }
+    ensures none { IfErr result (λ f. spec.IfRefused f (λ _. spec.NoneCovers graph.now)) }
+    ensures named { IfErr result (λ f. spec.IfRefused f (spec.IsNamed graph.now)) }
+{
+    let mut ticks = Ticks::<L, 0, 0>::new(blank);
+    analyse(alloc, graph, &mut ticks)
+}
+
+/// `analyse` for callers that don't ask how often a point is transferred.
+///
+/// # Errors
+///
+/// Those of `analyse`.
+pub fn analyse_plainly(alloc: Global, graph: &Graph) -> Result<FullCert, AnalyseFault>
+    ensures covers { IfOk result (λ c. Covers graph.now c) }
+    ensures least { IfOk result (λ c. spec.IsLeast graph.now c) }
+    ensures none { IfErr result (λ f. spec.IfRefused f (λ _. spec.NoneCovers graph.now)) }
+    ensures named { IfErr result (λ f. spec.IfRefused f (spec.IsNamed graph.now)) }
+{
+    analyse_in::<Brand>(alloc, graph, Blank::new(1))
 }
 
 /// One fault is named of a graph at most. It does nothing: its clause is the law.

@@ -10,7 +10,7 @@ mod ticks;
 mod walk;
 
 pub use all::{Start, analyse_all};
-pub use analyser::{analyse, one_fault_is_named};
+pub use analyser::{analyse, analyse_plainly, one_fault_is_named};
 pub use fault::AnalyseFault;
 pub use laws::{one_certificate_is_least, thin_least};
 pub use ticks::Ticks;

@@ -1,10 +1,12 @@
 pub mod Files
+pub mod Flaws
 pub mod Fronts
 pub mod InPlace
 pub mod Laws
 pub mod Letters
 pub mod Locks
 pub mod Modes
+pub mod Names
 pub mod Pieces
 pub mod Places
 pub mod Runs

@@ -1,10 +1,13 @@
+pub mod DriftWords
 pub mod Drifts
 pub mod Flags
+pub mod Line
 pub mod Locks
 pub mod Marks
 pub mod Names
 pub mod Parts
 pub mod Reading
+pub mod Report
 pub mod Runs
 pub mod Tokens
 pub mod Wrappers

@@ -43,7 +43,7 @@ abbrev pub unwrapped : List ℕ → List ℕ
 unwrapped tokens = if is_enclosed tokens then inside tokens else tokens
 
 -- without so many pairs of brackets that enclose all of it, if there are so many
-abbrev pub bare : ℕ → List ℕ → List ℕ
+unfoldable pub bare : ℕ → List ℕ → List ℕ
 bare zero tokens = tokens
 bare (suc n) tokens = unwrapped (bare n tokens)
 

@@ -128,6 +128,7 @@ fn unwrapped(tokens: &[u8]) -> &[u8]
 }
 
 /// The tokens without the brackets that enclose them.
+#[tactic(auto, unfolding(crate::specs::Tokens::bare))]
 fn bare(tokens: &[u8]) -> &[u8]
     ensures { result.now ≡ spec.bare 8 tokens.now }
 {

@@ -1,6 +1,6 @@
 -- What is covered breaks nothing, and an exit status 0 says that something is covered.
 use Rattle.std.proofs.Common.{◌⊎◌, inl, inr, ◌≡◌, ℕ, zero, suc, ◌+◌, List, [], ◌∷◌, ◌++◌, Bool, None}
-use Rattle.std.proofs.Common.{Option, Result, Ok, Err, map, take, drop, max, refl, sym, ◌∙◌, arith}
+use Rattle.std.proofs.Common.{Option, Result, Ok, Err, take, drop, max, refl, sym, ◌∙◌, arith}
 use Rattle.std.proofs.Math.Path.{subst}
 use Rattle.std.specs.Borrow.{Bor}
 use Rattle.flt_syntax.specs.declared.fault.SyntaxFault.{SyntaxFault}
@@ -22,14 +22,14 @@ use Rattle.flt_explain_forms.specs.declared.run.FindingRun.{FindingRun}
 use Rattle.flt_explain_forms.specs.Sarif.{AreResults, IsSarif}
 use Rattle.flt_explain_forms.specs.Warned.{status_of as status_of_warned}
 use Rattle.flt_explain_forms.specs.declared.as_lines.Style.{Style}
-use Rattle.flt_explain_forms.specs.declared.unread.UnreadFile.{UnreadFile}
+use Rattle.flt_files.specs.declared.unread.UnreadFile.{UnreadFile}
 use Rattle.flt_explain_forms.specs.declared.as_lines.Style.TheVariants.{Object, Sentence}
 use Rattle.flt_explain_runs.specs.Reported.{AreAllReports, AreParts, IsNoticeReport, IsStatus, IsText, IsTextReport}
 use Rattle.flt_explain_runs.specs.Reported as reports
 use Rattle.flt_explain_runs.specs.Whole.{Look}
-use Rattle.flt_explain_details.specs.Reports.{IsJudged, IsKnown, texts_of}
+use Rattle.flt_explain_texts.specs.Reports.{IsJudged, IsKnown, texts_of}
 use Rattle.flt_explain_runs.specs.declared.explaining.ExplainOutput.{ExplainOutput}
-use Rattle.flt_explain_details.specs.declared.sources.Source.{Source}
+use Rattle.flt_explain_texts.specs.declared.sources.Source.{Source}
 use Rattle.flt_explain_warning_details.specs.Options.{warned_status}
 use Rattle.flt_explain_warning_details.specs.declared.detail.WarningDetail.{WarningDetail}
 use Rattle.flt_explain_warning_details.specs.declared.options.WarningOptions.{WarningOptions}
@@ -38,33 +38,42 @@ use Rattle.flt_words.specs.declared.request.Part.{Part}
 use Rattle.flt_words.specs.declared.request.Form.{Form}
 use Rattle.flt_words.specs.declared.request.Form.TheVariants.{Html, Human, Lines, LinesWithRuns, Sarif, SarifWithRuns, Short}
 use Rattle.json.specs.Token.{Token}
-use Rattle.flt_explain_details.specs.declared.judged.TextJudgement.{TextJudgement as Found}
-use Rattle.flt_explain_details.specs.declared.judged.TextJudgement.TheVariants.{Unread, Known}
+use Rattle.flt_explain_texts.specs.declared.judged.TextJudgement.{TextJudgement as Found}
+use Rattle.flt_explain_texts.specs.declared.judged.TextJudgement.TheVariants.{Unread, Known}
 use Rattle.flt_tree.specs.declared.tree.Tree.{Tree}
 use Rattle.flt_model.specs.Program.{by_altitude}
 use Rattle.flt_model.specs.Runs.{breaks}
 use Rattle.flt_syntax.specs.Spelling.{Spells}
 use Rattle.flt_tree.specs.declared.filter.Filter.{Filter}
-use Rattle.flt_commands.proofs.OnePlace.{zipped_once}
-use Rattle.flt_commands.specs.Analyse.{IsAnalysed}
-use Rattle.flt_commands.specs.Answer.{status_of, told_status}
-use Rattle.flt_commands.specs.Check.{Decides, HasPoints, IsAnswer, IsChecked}
+use Rattle.flt_files.proofs.OnePlace.{zipped_once}
+use Rattle.flt_commands_texts.specs.Analyse.{IsAnalysed}
+use Rattle.flt_commands.specs.Answer.{IsOf, answered, of_explain, status_of}
+use Rattle.flt_commands_explain.specs.Answer.{status_of as explain_status}
+use Rattle.flt_commands_runs.specs.Answer.{status_of as run_status}
+use Rattle.flt_commands_texts.specs.Answer.{status_of as text_status}
+use Rattle.flt_files.specs.Unread.{status_beside}
+use Rattle.flt_commands_texts.specs.Check.{Decides, HasPoints, IsAnswer, IsChecked}
 use Rattle.flt_commands.specs.Clean.{BreakNothing, BreaksNothing, EachBreaksNothing, IsClean}
 use Rattle.flt_commands.specs.Commands.{IsSaid, IsReported}
-use Rattle.flt_commands.specs.Emit as emit
-use Rattle.flt_commands.specs.Emit.{Emits, Emitting, IsEmitted}
-use Rattle.flt_commands.specs.EmitInto.{IsEmittedInto, Writes}
-use Rattle.flt_commands.specs.Explain.{IsExplained, IsTold, look_in}
-use Rattle.flt_commands.specs.Inputs.{Giving, given, Says, Text, unread}
-use Rattle.flt_commands.specs.Running.{IsRan}
-use Rattle.flt_commands.specs.Thin.{IsThinned, Decides as DecidesThin}
+use Rattle.flt_commands_texts.specs.Emit as emit
+use Rattle.flt_commands_texts.specs.Emit.{Emits, Emitting, IsEmitted}
+use Rattle.flt_commands_texts.specs.EmitInto.{IsEmittedInto, Writes}
+use Rattle.flt_commands_explain.specs.Explain.{IsExplained, IsTold, look_in}
+use Rattle.flt_files.specs.Inputs.{Giving, given, Says, Text, unread}
+use Rattle.flt_commands_runs.specs.Running.{IsRan}
+use Rattle.flt_commands_texts.specs.Thin.{IsThinned, Decides as DecidesThin}
 use Rattle.flt_words.specs.Request.{Asked, Choice, Check, Analyse, Thin, Run, Replay, Show, Explain}
 use Rattle.flt_words.specs.Request.{Extract, Format, Pages, Emit, EmitInto, Compare, Serve}
 use Rattle.flt_commands.specs.declared.answer.Answer.{Answer}
-use Rattle.flt_commands.specs.declared.answer.Answer.TheVariants.{Accepted, Refused, Certificate as Written, Judged, Ran as has_run}
-use Rattle.flt_commands.specs.declared.answer.Answer.TheVariants.{FileRefused, Explained, Extracted as has_text, Formatted as has_layouts}
-use Rattle.flt_commands.specs.declared.answer.Answer.TheVariants.{Pages as has_pages, Shown, Emitted, NotEmitted, EmittedInto, Compared}
-use Rattle.flt_commands.specs.declared.failure.Failure.{Failure}
+use Rattle.flt_commands.specs.declared.answer.Answer.TheVariants.{OfText, OfRun, OfExplain}
+use Rattle.flt_commands_explain.specs.declared.answer.ExplainAnswer.{ExplainAnswer}
+use Rattle.flt_commands_explain.specs.declared.answer.ExplainAnswer.TheVariants.{Explained, Pages as has_pages}
+use Rattle.flt_commands_runs.specs.declared.answer.RunAnswer.{RunAnswer}
+use Rattle.flt_commands_runs.specs.declared.answer.RunAnswer.TheVariants.{FileRefused, Judged, Ran as has_run, Shown}
+use Rattle.flt_commands_texts.specs.declared.answer.TextAnswer.{TextAnswer}
+use Rattle.flt_commands_texts.specs.declared.answer.TextAnswer.TheVariants.{Accepted, Refused, Certificate as Written, Extracted as has_text}
+use Rattle.flt_commands_texts.specs.declared.answer.TextAnswer.TheVariants.{Formatted as has_layouts, Emitted, NotEmitted, EmittedInto, Compared}
+use Rattle.flt_files.specs.declared.failure.Failure.{Failure}
 
 -- the laws' clauses
 abbrev pub Law : Type 0
@@ -102,94 +111,65 @@ driven_is_clean one script texts ran is filters transitions spelled =
 
 module _ (law : Law) (runs : LawOfRuns) (nowhere : SpelledFailsNowhere) where
   -- what is said of a text and its certificate with the status 0 is that it is accepted
-  judged : (text certificate : Text) (answer : Answer) →
-      IsAnswer Decides text certificate answer → status_of answer ≡ 0 → BreaksNothing text
+  judged : (text certificate : Text) (answer : TextAnswer) →
+      IsAnswer Decides text certificate answer → text_status answer ≡ 0 → BreaksNothing text
   judged text certificate Accepted said good = law text said.graph said.cert said.points said.decided
   judged text certificate (Refused f) said good = absurd (omega (arith, good))
   judged text certificate (Written bytes) said good = absurd said.decided
-  judged text certificate (Judged v) said good = absurd said.decided
-  judged text certificate (has_run ran) said good = absurd said.decided
-  judged text certificate (FileRefused n f) said good = absurd said.decided
-  judged text certificate (Explained r missed) said good = absurd said.decided
-  judged text certificate (Shown rows v) said good = absurd said.decided
   judged text certificate (has_text b) said good = absurd said.decided
   judged text certificate (has_layouts mode outcomes) said good = absurd said.decided
-  judged text certificate (has_pages t) said good = absurd said.decided
   judged text certificate (Emitted b) said good = absurd said.decided
   judged text certificate (NotEmitted w) said good = absurd said.decided
   judged text certificate (EmittedInto d) said good = absurd said.decided
   judged text certificate (Compared w) said good = absurd said.decided
 
-  checked : (texts : List Text) (answer : Answer) (file : Text) (cert : Option Text) → IsChecked texts (Ok answer) →
-      status_of answer ≡ 0 → IsClean (Check file cert) texts
+  checked : (texts : List Text) (answer : TextAnswer) (file : Text) (cert : Option Text) → IsChecked texts (Ok answer) →
+      text_status answer ≡ 0 → IsClean (Check file cert) texts
   checked [] answer file cert said good = said
   checked (bytes ∷ []) answer file cert said good = (said.0, said.1, judged (take said.0 bytes) (drop said.0 bytes) answer said.2 good)
   checked (text ∷ certificate ∷ []) answer file cert said good = judged text certificate answer said good
   checked (text ∷ certificate ∷ more ∷ texts) answer file cert said good = said
 
   -- what is said so by `thin` is that it is covered
-  left : (text certificate : Text) (answer : Answer) →
-      IsAnswer DecidesThin text certificate answer → status_of answer ≡ 0 → BreaksNothing text
+  left : (text certificate : Text) (answer : TextAnswer) →
+      IsAnswer DecidesThin text certificate answer → text_status answer ≡ 0 → BreaksNothing text
   left text certificate (Written bytes) said good = law text said.graph said.cert said.points said.decided.0
   left text certificate (Refused f) said good = absurd (omega (arith, good))
   left text certificate Accepted said good = absurd said.decided
-  left text certificate (Judged v) said good = absurd said.decided
-  left text certificate (has_run ran) said good = absurd said.decided
-  left text certificate (FileRefused n f) said good = absurd said.decided
-  left text certificate (Explained r missed) said good = absurd said.decided
-  left text certificate (Shown rows v) said good = absurd said.decided
   left text certificate (has_text b) said good = absurd said.decided
   left text certificate (has_layouts mode outcomes) said good = absurd said.decided
-  left text certificate (has_pages t) said good = absurd said.decided
   left text certificate (Emitted b) said good = absurd said.decided
   left text certificate (NotEmitted w) said good = absurd said.decided
   left text certificate (EmittedInto d) said good = absurd said.decided
   left text certificate (Compared w) said good = absurd said.decided
 
-  thinned : (texts : List Text) (answer : Answer) (file : Text) (cert : Option Text) → IsThinned texts (Ok answer) →
-      status_of answer ≡ 0 → IsClean (Thin file cert) texts
+  thinned : (texts : List Text) (answer : TextAnswer) (file : Text) (cert : Option Text) → IsThinned texts (Ok answer) →
+      text_status answer ≡ 0 → IsClean (Thin file cert) texts
   thinned [] answer file cert said good = said
   thinned (bytes ∷ []) answer file cert said good = (said.0, said.1, left (take said.0 bytes) (drop said.0 bytes) answer said.2 good)
   thinned (text ∷ certificate ∷ []) answer file cert said good = left text certificate answer said good
   thinned (text ∷ certificate ∷ more ∷ texts) answer file cert said good = said
 
-  analysed : (texts : List Text) (answer : Answer) (file : Text) → IsAnalysed texts (Ok answer) → status_of answer ≡ 0 →
+  analysed : (texts : List Text) (answer : TextAnswer) (file : Text) → IsAnalysed texts (Ok answer) → text_status answer ≡ 0 →
       IsClean (Analyse file) texts
   analysed [] answer file said good = said
   analysed (text ∷ []) (Written bytes) file said good = law text said.graph (Full said.cert) said.points said.covers
   analysed (text ∷ []) (Refused f) file said good = absurd (omega (arith, good))
   analysed (text ∷ []) Accepted file said good = absurd said
-  analysed (text ∷ []) (Judged v) file said good = absurd said
-  analysed (text ∷ []) (has_run ran) file said good = absurd said
-  analysed (text ∷ []) (FileRefused n f) file said good = absurd said
-  analysed (text ∷ []) (Explained r missed) file said good = absurd said
-  analysed (text ∷ []) (Shown rows v) file said good = absurd said
   analysed (text ∷ []) (has_text b) file said good = absurd said
   analysed (text ∷ []) (has_layouts mode outcomes) file said good = absurd said
-  analysed (text ∷ []) (has_pages t) file said good = absurd said
   analysed (text ∷ []) (Emitted b) file said good = absurd said
   analysed (text ∷ []) (NotEmitted w) file said good = absurd said
   analysed (text ∷ []) (EmittedInto d) file said good = absurd said
   analysed (text ∷ []) (Compared w) file said good = absurd said
   analysed (text ∷ more ∷ texts) answer file said good = said
 
-  driven : (texts : List Text) (answer : Answer) (workers : ℕ) (quiet : Bool) (script : Text) (files : List Text) →
-      IsRan texts (Ok answer) → status_of answer ≡ 0 → IsClean (Run workers quiet script files) texts
+  driven : (texts : List Text) (answer : RunAnswer) (workers : ℕ) (quiet : Bool) (script : Text) (files : List Text) →
+      IsRan texts (Ok answer) → run_status answer ≡ 0 → IsClean (Run workers quiet script files) texts
   driven [] answer workers quiet script files said good = said
   driven (bytes ∷ texts) (has_run ran) workers quiet script files said good = runs bytes texts ran said
   driven (bytes ∷ texts) (FileRefused n f) workers quiet script files said good = absurd (omega (arith, good))
-  driven (bytes ∷ texts) Accepted workers quiet script files said good = absurd said
-  driven (bytes ∷ texts) (Explained r missed) workers quiet script files said good = absurd said
   driven (bytes ∷ texts) (Shown rows v) workers quiet script files said good = absurd said
-  driven (bytes ∷ texts) (has_text b) workers quiet script files said good = absurd said
-  driven (bytes ∷ texts) (has_layouts mode outcomes) workers quiet script files said good = absurd said
-  driven (bytes ∷ texts) (has_pages t) workers quiet script files said good = absurd said
-  driven (bytes ∷ texts) (Emitted b) workers quiet script files said good = absurd said
-  driven (bytes ∷ texts) (NotEmitted w) workers quiet script files said good = absurd said
-  driven (bytes ∷ texts) (EmittedInto d) workers quiet script files said good = absurd said
-  driven (bytes ∷ texts) (Compared w) workers quiet script files said good = absurd said
-  driven (bytes ∷ texts) (Refused f) workers quiet script files said good = absurd said
-  driven (bytes ∷ texts) (Written c) workers quiet script files said good = absurd said
   driven (bytes ∷ texts) (Judged v) workers quiet script files said good = absurd said
 
   -- a text of which nothing is found is covered
@@ -297,87 +277,91 @@ module _ (law : Law) (runs : LawOfRuns) (nowhere : SpelledFailsNowhere) where
       all_reported options told.reports.filters sources told.printed t.explained.status told.reports.are good
 
   -- where a file isn't read, the status isn't 0
-  own_zero : (status : ℕ) (missed : List UnreadFile) → told_status status missed ≡ 0 → status ≡ 0
+  own_zero : (status : ℕ) (missed : List UnreadFile) → status_beside status missed ≡ 0 → status ≡ 0
   own_zero status [] good = good
   own_zero status (file ∷ files) good = absurd (omega (arith, good))
 
   explained : (gives : Giving) (is_c : Bool) (form : Form) (colour : Colour) (states : ℕ) (look : Look) (journal : Option Text)
-      (warnings : Choice) (files : List Text) (codes : List (Option Text)) (texts : List Text) (answer : Answer) →
-      IsExplained gives is_c form look warnings.allowed journal files codes texts (Ok answer) → status_of answer ≡ 0 →
+      (warnings : Choice) (files : List Text) (codes : List (Option Text)) (texts : List Text) (answer : ExplainAnswer) →
+      IsExplained gives is_c form look warnings.allowed journal files codes texts (Ok answer) → explain_status answer ≡ 0 →
       IsClean (Explain form colour states journal warnings is_c files) texts
   explained gives is_c form colour states look journal warnings files codes texts (Explained e missed) said good =
       let with = said.told.told in
       let zeros = both_zero with.own.explained.status _ (sym with.after.status ∙ own_zero e.explained.status missed.items good) in
       subst EachBreaksNothing (sym said.told.given)
       (told_well form look.options said.told.drifted said.told.sources missed.items with.own with.told.told zeros.0)
-  explained gives is_c form colour states look journal warnings files codes texts (Shown rows v) said good = absurd said
-  explained gives is_c form colour states look journal warnings files codes texts (has_text b) said good = absurd said
-  explained gives is_c form colour states look journal warnings files codes texts (has_layouts mode outcomes) said good = absurd said
   explained gives is_c form colour states look journal warnings files codes texts (has_pages t) said good = absurd said
-  explained gives is_c form colour states look journal warnings files codes texts (Emitted b) said good = absurd said
-  explained gives is_c form colour states look journal warnings files codes texts (NotEmitted w) said good = absurd said
-  explained gives is_c form colour states look journal warnings files codes texts (EmittedInto d) said good = absurd said
-  explained gives is_c form colour states look journal warnings files codes texts (Compared w) said good = absurd said
-  explained gives is_c form colour states look journal warnings files codes texts (has_run ran) said good = absurd said
-  explained gives is_c form colour states look journal warnings files codes texts (FileRefused n f) said good = absurd said
-  explained gives is_c form colour states look journal warnings files codes texts Accepted said good = absurd said
-  explained gives is_c form colour states look journal warnings files codes texts (Refused f) said good = absurd said
-  explained gives is_c form colour states look journal warnings files codes texts (Written c) said good = absurd said
-  explained gives is_c form colour states look journal warnings files codes texts (Judged v) said good = absurd said
 
   -- what is emitted is covered
-  covered : (emitting : Emitting) (has : Cert → Type 0) (refuses : Answer → Type 0) (text : Text) (answer : Answer) →
-      emit.IsAnswer emitting has refuses text answer → status_of answer ≡ 0 → BreaksNothing text
+  covered : (emitting : Emitting) (has : Cert → Type 0) (refuses : TextAnswer → Type 0) (text : Text) (answer : TextAnswer) →
+      emit.IsAnswer emitting has refuses text answer → text_status answer ≡ 0 → BreaksNothing text
   covered emitting has refuses text _ (emit.refused f is) good = absurd (omega (arith, good))
   covered emitting has refuses text _ (emit.emits answer is) good = law text is.graph is.cert is.points is.covers
 
-  emitted : (texts : List Text) (answer : Answer) (part : Part) (file : Text) (cert : Option Text) → IsEmitted part texts (Ok answer) →
-      status_of answer ≡ 0 → IsClean (Emit part file cert) texts
+  emitted : (texts : List Text) (answer : TextAnswer) (part : Part) (file : Text) (cert : Option Text) → IsEmitted part texts (Ok answer) →
+      text_status answer ≡ 0 → IsClean (Emit part file cert) texts
   emitted [] answer part file cert said good = said
   emitted (text ∷ []) answer part file cert said good = covered (Emits part) _ _ text answer said good
   emitted (text ∷ certificate ∷ []) answer part file cert said good = covered (Emits part) _ _ text answer said good
   emitted (text ∷ certificate ∷ more ∷ texts) answer part file cert said good = said
 
-  emitted_into : (texts : List Text) (answer : Answer) (folder file : Text) (cert : Option Text) → IsEmittedInto folder texts (Ok answer) →
-      status_of answer ≡ 0 → IsClean (EmitInto folder file cert) texts
+  emitted_into : (texts : List Text) (answer : TextAnswer) (folder file : Text) (cert : Option Text) → IsEmittedInto folder texts (Ok answer) →
+      text_status answer ≡ 0 → IsClean (EmitInto folder file cert) texts
   emitted_into [] answer folder file cert said good = said
   emitted_into (text ∷ []) answer folder file cert said good = covered (Writes folder) _ _ text answer said good
   emitted_into (text ∷ certificate ∷ []) answer folder file cert said good = covered (Writes folder) _ _ text answer said good
   emitted_into (text ∷ certificate ∷ more ∷ texts) answer folder file cert said good = said
 
   -- where this is said of what the names give, and reported with the status 0, that holds which it says of an answer with that status
-  says_clean : (gives : Giving) (names texts : List Text) (IsSaidOf : List Text → Result Answer Failure → Type 0) (P : Type 0)
-      (said : Result Answer Failure) (bytes : List ℕ) (status : ℕ) →
-      ((answer : Answer) → IsSaidOf texts (Ok answer) → status_of answer ≡ 0 → P) → Says gives names IsSaidOf texts said →
-      IsReported said bytes status → status ≡ 0 → P
-  says_clean gives names texts IsSaidOf P _ bytes status holds (unread f fails) reported good = absurd (omega (arith, reported.1.1, good))
-  says_clean gives names texts IsSaidOf P (Err f) bytes status holds (given result there said) reported good =
+  module _ {A : Type 0} (kind : A → Answer) where
+    own_clean : (gives : Giving) (names texts : List Text) (IsSaidOf : List Text → Result A Failure → Type 0) (P : Type 0)
+        (own : Result A Failure) (bytes : List ℕ) (status : ℕ) →
+        ((answer : A) → IsSaidOf texts (Ok answer) → status_of (kind answer) ≡ 0 → P) → Says gives names IsSaidOf texts own →
+        IsReported (answered kind own) bytes status → status ≡ 0 → P
+    own_clean gives names texts IsSaidOf P _ bytes status holds (unread f fails) reported good = absurd (omega (arith, reported.1.1, good))
+    own_clean gives names texts IsSaidOf P (Err f) bytes status holds (given result there said) reported good =
+        absurd (omega (arith, reported.1.1, good))
+    own_clean gives names texts IsSaidOf P (Ok answer) bytes status holds (given result there said) reported good =
+        holds answer said (sym reported.1 ∙ good)
+
+    says_clean : (gives : Giving) (names texts : List Text) (IsSaidOf : List Text → Result A Failure → Type 0) (P : Type 0)
+        (said : Result Answer Failure) (bytes : List ℕ) (status : ℕ) →
+        ((answer : A) → IsSaidOf texts (Ok answer) → status_of (kind answer) ≡ 0 → P) → IsOf kind (Says gives names IsSaidOf texts) said →
+        IsReported said bytes status → status ≡ 0 → P
+    says_clean gives names texts IsSaidOf P said bytes status holds (own, same, is) reported good =
+        own_clean gives names texts IsSaidOf P own bytes status holds is (subst (λ s. IsReported s bytes status) same reported) good
+
+  own_explains_clean : (gives : Giving) (is_c : Bool) (form : Form) (colour : Colour) (states : ℕ) (look : Look) (journal : Option Text)
+      (warnings : Choice) (files : List Text) (codes : List (Option Text)) (texts : List Text) (own : Result ExplainAnswer Failure)
+      (bytes : List ℕ) (status : ℕ) → IsExplained gives is_c form look warnings.allowed journal files codes texts own →
+      IsReported (of_explain own) bytes status →
+      status ≡ 0 → IsClean (Explain form colour states journal warnings is_c files) texts
+  own_explains_clean gives is_c form colour states look journal warnings files codes texts (Ok answer) bytes status said reported good =
+      explained gives is_c form colour states look journal warnings files codes texts answer said (sym reported.1 ∙ good)
+  own_explains_clean gives is_c form colour states look journal warnings files codes texts (Err f) bytes status said reported good =
       absurd (omega (arith, reported.1.1, good))
-  says_clean gives names texts IsSaidOf P (Ok answer) bytes status holds (given result there said) reported good =
-      holds answer said (sym reported.1 ∙ good)
 
   explains_clean : (gives : Giving) (is_c : Bool) (form : Form) (colour : Colour) (states : ℕ) (look : Look) (journal : Option Text)
       (warnings : Choice) (files : List Text) (codes : List (Option Text)) (texts : List Text) (said : Result Answer Failure)
-      (bytes : List ℕ) (status : ℕ) → IsExplained gives is_c form look warnings.allowed journal files codes texts said →
-      IsReported said bytes status →
+      (bytes : List ℕ) (status : ℕ) →
+      IsOf OfExplain (IsExplained gives is_c form look warnings.allowed journal files codes texts) said → IsReported said bytes status →
       status ≡ 0 → IsClean (Explain form colour states journal warnings is_c files) texts
-  explains_clean gives is_c form colour states look journal warnings files codes texts (Ok answer) bytes status said reported good =
-      explained gives is_c form colour states look journal warnings files codes texts answer said (sym reported.1 ∙ good)
-  explains_clean gives is_c form colour states look journal warnings files codes texts (Err f) bytes status said reported good =
-      absurd (omega (arith, reported.1.1, good))
+  explains_clean gives is_c form colour states look journal warnings files codes texts said bytes status (own, same, is) reported good =
+      own_explains_clean gives is_c form colour states look journal warnings files codes texts own bytes status is
+      (subst (λ s. IsReported s bytes status) same reported) good
 
   -- where this is said of what is asked for, and reported with the status 0, the text breaks nothing
   pub clean_of : (shown : Bool) (gives : Giving) (request : Asked) (codes : List (Option Text)) (texts : List Text)
       (said : Result Answer Failure) (bytes : List ℕ) (status : ℕ) →
       IsSaid shown gives request codes texts said → IsReported said bytes status → status ≡ 0 → IsClean request texts
   clean_of shown gives (Check file cert) codes texts said bytes status is reported good =
-      says_clean gives _ texts IsChecked _ said bytes status (λ answer is well. checked texts answer file cert is well) is reported good
+      says_clean OfText gives _ texts IsChecked _ said bytes status (λ answer is well. checked texts answer file cert is well) is reported good
   clean_of shown gives (Analyse file) codes texts said bytes status is reported good =
-      says_clean gives _ texts IsAnalysed _ said bytes status (λ answer is well. analysed texts answer file is well) is reported good
+      says_clean OfText gives _ texts IsAnalysed _ said bytes status (λ answer is well. analysed texts answer file is well) is reported good
   clean_of shown gives (Thin file cert) codes texts said bytes status is reported good =
-      says_clean gives _ texts IsThinned _ said bytes status (λ answer is well. thinned texts answer file cert is well) is reported good
+      says_clean OfText gives _ texts IsThinned _ said bytes status (λ answer is well. thinned texts answer file cert is well) is reported good
   clean_of shown gives (Run workers quiet script files) codes texts said bytes status is reported good =
-      says_clean gives _ texts IsRan _ said bytes status
+      says_clean OfRun gives _ texts IsRan _ said bytes status
       (λ answer is well. driven texts answer workers quiet script files is well) is reported good
   clean_of shown gives (Replay journal files) codes texts said bytes status is reported good = tt
   clean_of shown gives (Show timeline picture journal files) codes texts said bytes status is reported good = tt
@@ -389,9 +373,9 @@ module _ (law : Law) (runs : LawOfRuns) (nowhere : SpelledFailsNowhere) where
   clean_of shown gives (Pages names) codes texts said bytes status is reported good = tt
   clean_of shown gives (Compare files) codes texts said bytes status is reported good = tt
   clean_of shown gives (Emit part file cert) codes texts said bytes status is reported good =
-      says_clean gives _ texts (IsEmitted part) _ said bytes status
+      says_clean OfText gives _ texts (IsEmitted part) _ said bytes status
       (λ answer is well. emitted texts answer part file cert is well) is reported good
   clean_of shown gives (EmitInto folder file cert) codes texts said bytes status is reported good =
-      says_clean gives _ texts (IsEmittedInto folder) _ said bytes status
+      says_clean OfText gives _ texts (IsEmittedInto folder) _ said bytes status
       (λ answer is well. emitted_into texts answer folder file cert is well) is reported good
   clean_of shown gives Serve codes texts said bytes status is reported good = tt

@@ -10,16 +10,17 @@ use Rattle.flt_cert.specs.declared.cert.Cert.TheVariants.{Full}
 use Rattle.flt_check.specs.Covering.{Covers}
 use Rattle.flt_rules.specs.declared.refusal.Refusal.{Refusal}
 use Rattle.flt_analyse.specs.Least.{IsLeast, IsNamed, NoneCovers}
-use Rattle.flt_commands.specs.Analyse.{IsAnalysed, IsCertified, IsFailure, IsRefused, Judges}
-use Rattle.flt_commands.specs.Check.{HasPoints}
-use Rattle.flt_commands.specs.Inputs.{Text}
+use Rattle.flt_commands_texts.specs.Analyse.{IsAnalysed, IsCertified, IsFailure, IsRefused, Judges}
+use Rattle.flt_commands_texts.specs.Check.{HasPoints}
+use Rattle.flt_files.specs.Inputs.{Text}
+use Rattle.flt_commands.specs.Answer.{of_text}
 use Rattle.flt_commands.specs.Single.{AreSame, SaysOne, seen, told}
-use Rattle.flt_commands.specs.declared.answer.Answer.{Answer}
-use Rattle.flt_commands.specs.declared.answer.Answer.TheVariants.{Accepted, Refused, Certificate as Written, Judged, Ran}
-use Rattle.flt_commands.specs.declared.answer.Answer.TheVariants.{FileRefused, Explained, Extracted, Formatted, Pages}
-use Rattle.flt_commands.specs.declared.answer.Answer.TheVariants.{Shown, Emitted, NotEmitted, EmittedInto, Compared}
-use Rattle.flt_commands.specs.declared.failure.Failure.{Failure}
-use Rattle.flt_commands.specs.declared.failure.Failure.TheVariants.{Syntax, OutOfMemory}
+use Rattle.flt_commands_texts.specs.declared.answer.TextAnswer.{TextAnswer}
+use Rattle.flt_commands.specs.declared.answer.Answer.TheVariants.{OfText}
+use Rattle.flt_commands_texts.specs.declared.answer.TextAnswer.TheVariants.{Accepted, Refused, Certificate as Written, Extracted, Formatted}
+use Rattle.flt_commands_texts.specs.declared.answer.TextAnswer.TheVariants.{Emitted, NotEmitted, EmittedInto, Compared}
+use Rattle.flt_files.specs.declared.failure.Failure.{Failure}
+use Rattle.flt_files.specs.declared.failure.Failure.TheVariants.{Syntax, OutOfMemory}
 
 module _ (graph : (text : Text) (g h : Graph) → HasPoints text g → HasPoints text h → g ≡ h)
     (nowhere : SpelledFailsNowhere) (once : FailsAtMostOnce)
@@ -44,69 +45,45 @@ module _ (graph : (text : Text) (g h : Graph) → HasPoints text g → HasPoints
       named x.graph f h x.named (subst (λ g. IsNamed g h) points y.named)
 
   -- a text of which something is answered spells a filter
-  answered : (text : Text) (a : Answer) → Judges text (Ok a) → (f : Filter) × Spells text f
+  answered : (text : Text) (a : TextAnswer) → Judges text (Ok a) → (f : Filter) × Spells text f
   answered text (Written c) x = (x.points.filter, x.points.spelled)
   answered text (Refused f) x = (x.points.filter, x.points.spelled)
   answered text Accepted x = absurd x
-  answered text (Judged v) x = absurd x
-  answered text (Ran ran) x = absurd x
-  answered text (FileRefused n f) x = absurd x
-  answered text (Explained r files) x = absurd x
-  answered text (Shown rows v) x = absurd x
   answered text (Extracted bytes) x = absurd x
   answered text (Formatted mode found) x = absurd x
-  answered text (Pages t) x = absurd x
   answered text (Emitted bytes) x = absurd x
   answered text (NotEmitted why) x = absurd x
   answered text (EmittedInto driver) x = absurd x
   answered text (Compared why) x = absurd x
 
-  answers_once : (text : Text) (a b : Answer) → Judges text (Ok a) → Judges text (Ok b) → seen (Ok a) ≡ seen (Ok b)
+  answers_once : (text : Text) (a b : TextAnswer) → Judges text (Ok a) → Judges text (Ok b) → seen (Ok (OfText a)) ≡ seen (Ok (OfText b))
   answers_once text (Written c) (Written d) x y = let same : c.items ≡ d.items = certified_once text c.items d.items x y in cc
   answers_once text (Written c) (Refused f) x y = absurd (not_refused text c.items f x y)
   answers_once text (Refused f) (Written c) x y = absurd (not_refused text c.items f y x)
-  answers_once text (Refused f) (Refused h) x y = ap (λ r. seen (Ok (Refused r))) (refused_once text f h x y)
+  answers_once text (Refused f) (Refused h) x y = ap (λ r. seen (Ok (OfText (Refused r)))) (refused_once text f h x y)
   answers_once text (Written c) Accepted x y = absurd y
-  answers_once text (Written c) (Judged v) x y = absurd y
-  answers_once text (Written c) (Ran ran) x y = absurd y
-  answers_once text (Written c) (FileRefused n f) x y = absurd y
-  answers_once text (Written c) (Explained r files) x y = absurd y
-  answers_once text (Written c) (Shown rows v) x y = absurd y
   answers_once text (Written c) (Extracted bytes) x y = absurd y
   answers_once text (Written c) (Formatted mode found) x y = absurd y
-  answers_once text (Written c) (Pages t) x y = absurd y
   answers_once text (Written c) (Emitted bytes) x y = absurd y
   answers_once text (Written c) (NotEmitted why) x y = absurd y
   answers_once text (Written c) (EmittedInto driver) x y = absurd y
   answers_once text (Written c) (Compared why) x y = absurd y
   answers_once text (Refused f) Accepted x y = absurd y
-  answers_once text (Refused f) (Judged v) x y = absurd y
-  answers_once text (Refused f) (Ran ran) x y = absurd y
-  answers_once text (Refused f) (FileRefused n h) x y = absurd y
-  answers_once text (Refused f) (Explained r files) x y = absurd y
-  answers_once text (Refused f) (Shown rows v) x y = absurd y
   answers_once text (Refused f) (Extracted bytes) x y = absurd y
   answers_once text (Refused f) (Formatted mode found) x y = absurd y
-  answers_once text (Refused f) (Pages t) x y = absurd y
   answers_once text (Refused f) (Emitted bytes) x y = absurd y
   answers_once text (Refused f) (NotEmitted why) x y = absurd y
   answers_once text (Refused f) (EmittedInto driver) x y = absurd y
   answers_once text (Refused f) (Compared why) x y = absurd y
   answers_once text Accepted b x y = absurd x
-  answers_once text (Judged v) b x y = absurd x
-  answers_once text (Ran ran) b x y = absurd x
-  answers_once text (FileRefused n f) b x y = absurd x
-  answers_once text (Explained r files) b x y = absurd x
-  answers_once text (Shown rows v) b x y = absurd x
   answers_once text (Extracted bytes) b x y = absurd x
   answers_once text (Formatted mode found) b x y = absurd x
-  answers_once text (Pages t) b x y = absurd x
   answers_once text (Emitted bytes) b x y = absurd x
   answers_once text (NotEmitted why) b x y = absurd x
   answers_once text (EmittedInto driver) b x y = absurd x
   answers_once text (Compared why) b x y = absurd x
 
-  not_both : (text : Text) (a : Answer) (f : Failure) → Judges text (Ok a) → IsFailure text f → f ≢ OutOfMemory → ⊥
+  not_both : (text : Text) (a : TextAnswer) (f : Failure) → Judges text (Ok a) → IsFailure text f → f ≢ OutOfMemory → ⊥
   not_both text a (Syntax e) x y told = let found = answered text a x in nowhere text found.0 e found.1 y
   not_both text a OutOfMemory x y told = told refl
   not_both text a f x y told = y
@@ -118,14 +95,14 @@ module _ (graph : (text : Text) (g h : Graph) → HasPoints text g → HasPoints
   failures_once text (Syntax e) h x y p q = absurd y
   failures_once text f h x y p q = absurd x
 
-  judged_once : (text : Text) (a b : Result Answer Failure) → Judges text a → Judges text b → AreSame a b
+  judged_once : (text : Text) (a b : Result TextAnswer Failure) → Judges text a → Judges text b → AreSame (of_text a) (of_text b)
   judged_once text (Ok a) (Ok b) x y p q = answers_once text a b x y
   judged_once text (Ok a) (Err f) x y p q = absurd (not_both text a f x y (λ e. q (ap Err e)))
   judged_once text (Err f) (Ok b) x y p q = absurd (not_both text b f y x (λ e. p (ap Err e)))
   judged_once text (Err f) (Err h) x y p q = ap Err (failures_once text f h x y (λ e. p (ap Err e)) (λ e. q (ap Err e)))
 
   -- of some bytes `analyse` says one thing at most
-  pub analysed_once : SaysOne IsAnalysed
+  pub analysed_once : SaysOne OfText IsAnalysed
   analysed_once [] a b x y = absurd x
   analysed_once (text ∷ []) a b x y = judged_once text a b x y
   analysed_once (text ∷ more ∷ texts) a b x y = absurd x

@@ -1,28 +1,30 @@
 -- A command line has one answer at most.
 use Rattle.std.proofs.Common.{◌≡◌, ◌≢◌, ℕ, Bool, true, false, List, Option, Some, None}
-use Rattle.std.proofs.Common.{Result, Ok, Err, codes, refl, sym, ap, unwrap_or, ◌∙◌}
+use Rattle.std.proofs.Common.{Result, Ok, Err, codes, refl, subst, sym, ap, unwrap_or, ◌∙◌}
 use Rattle.std.specs.Str.{bytes_eq}
 use Rattle.flt_commands.proofs.OneComparison.{compares_once}
 use Rattle.flt_commands.proofs.OneExtraction.{extracts_once}
 use Rattle.flt_commands.proofs.OneLayout.{layouts_said_once}
 use Rattle.flt_commands.proofs.OneReading.{says_once, told_unread}
-use Rattle.flt_commands.specs.Analyse.{IsAnalysed}
-use Rattle.flt_commands.specs.Answer.{output, status_of}
-use Rattle.flt_commands.specs.Attempts.{Attempt}
-use Rattle.flt_commands.specs.Check.{IsChecked}
+use Rattle.flt_commands_texts.specs.Analyse.{IsAnalysed}
+use Rattle.flt_commands.specs.Answer.{IsOf, answered, output, status_of}
+use Rattle.flt_files.specs.Attempts.{Attempt}
+use Rattle.flt_commands_texts.specs.Check.{IsChecked}
 use Rattle.flt_commands.specs.Commands.{AnswersFor, IsReported, IsSaid, IsUnserved, codes_of, giving_for}
-use Rattle.flt_commands.specs.Compare.{IsCompared}
-use Rattle.flt_commands.specs.Extract.{IsExtracted}
-use Rattle.flt_commands.specs.Inputs.{Giving, Text, gives_but, gives_if, gives_text, kept}
-use Rattle.flt_commands.specs.Names.{names_of}
-use Rattle.flt_commands.specs.Replay.{IsReplayed}
+use Rattle.flt_commands_texts.specs.Compare.{IsCompared}
+use Rattle.flt_commands_texts.specs.Extract.{IsExtracted}
+use Rattle.flt_commands_texts.specs.Format.{IsFormatSaid}
+use Rattle.flt_files.specs.Inputs.{Giving, Says, Text, gives_but, gives_if, gives_text, kept}
+use Rattle.flt_files.specs.Names.{names_of}
+use Rattle.flt_commands_runs.specs.Replay.{IsReplayed}
 use Rattle.flt_commands.specs.Single.{AreSame, AskForOne, GivesOne, HasOneAnswer, SaysOne, seen, told}
-use Rattle.flt_commands.specs.Thin.{IsThinned}
+use Rattle.flt_commands_texts.specs.Thin.{IsThinned}
 use Rattle.flt_words.specs.Request.{Asked, Check, Analyse, Thin, Run, Replay, Show, Explain}
 use Rattle.flt_words.specs.Request.{Extract, Format, Pages, Emit, EmitInto, Compare, Serve}
 use Rattle.flt_commands.specs.declared.answer.Answer.{Answer}
-use Rattle.flt_commands.specs.declared.failure.Failure.{Failure}
-use Rattle.flt_commands.specs.declared.failure.Failure.TheVariants.{OutOfMemory}
+use Rattle.flt_commands.specs.declared.answer.Answer.TheVariants.{OfRun, OfText}
+use Rattle.flt_files.specs.declared.failure.Failure.{Failure}
+use Rattle.flt_files.specs.declared.failure.Failure.TheVariants.{OutOfMemory}
 use Rattle.flt_commands.specs.declared.report.Report.{Report}
 use Rattle.flt_syntax.specs.TextFails.{SpelledFailsNowhere}
 use Rattle.flt_words.specs.declared.request.FormatMode.TheVariants as modes
@@ -102,36 +104,54 @@ unserved_once (Ok x) b first second = absurd first
 unserved_once (Err f) (Ok y) first second = absurd second
 unserved_once (Err f) (Err g) first second = λ _ _. ap Err (told_unread (codes "-") f first ∙ sym (told_unread (codes "-") g second))
 
-module _ (checked : SaysOne IsChecked) (analysed : SaysOne IsAnalysed) (thinned : SaysOne IsThinned) (replayed : SaysOne IsReplayed)
-    (nowhere : SpelledFailsNowhere) where
+-- where commands of one kind say one thing at most, so much is said of any
+module _ {A : Type 0} (kind : A → Answer) where
+  of_one_kind : (IsFirst IsSecond : Result A Failure → Type 0) →
+      ((x y : Result A Failure) → IsFirst x → IsSecond y → AreSame (answered kind x) (answered kind y)) → (a b : Result Answer Failure) →
+      IsOf kind IsFirst a → IsOf kind IsSecond b → AreSame a b
+  of_one_kind IsFirst IsSecond once a b (x, first, is) (y, second, has) =
+      subst (λ s. AreSame s b) (sym first) (subst (λ s. AreSame (answered kind x) s) (sym second) (once x y is has))
+
+  -- the same of what is said where names are read
+  says_of_one_kind : (gives : Giving) → GivesOne gives → (names : List Text) (IsSaidOf : List Text → Result A Failure → Type 0) →
+      SaysOne kind IsSaidOf → (texts more : List Text) (a b : Result Answer Failure) → IsOf kind (Says gives names IsSaidOf texts) a →
+      IsOf kind (Says gives names IsSaidOf more) b → AreSame a b
+  says_of_one_kind gives one names IsSaidOf once texts more =
+      of_one_kind (Says gives names IsSaidOf texts) (Says gives names IsSaidOf more)
+      (says_once gives one kind names IsSaidOf once texts more)
+
+module _ (checked : SaysOne OfText IsChecked) (analysed : SaysOne OfText IsAnalysed) (thinned : SaysOne OfText IsThinned)
+    (replayed : SaysOne OfRun IsReplayed) (nowhere : SpelledFailsNowhere) where
   -- of what is asked for one thing is said at most
   pub said_once : (gives : Giving) (shown showing : Bool) (request : Asked) (codes others : List (Option Text)) (texts more : List Text)
       (a b : Result Answer Failure) → HasOneAnswer request → GivesOne gives → IsSaid shown gives request codes texts a →
       IsSaid showing gives request others more b → AreSame a b
   said_once gives shown showing (Check file cert) codes others texts more a b has one x y =
-      says_once gives one (names_of (Check file cert)) IsChecked checked texts more a b x y
+      says_of_one_kind OfText gives one (names_of (Check file cert)) IsChecked checked texts more a b x y
   said_once gives shown showing (Analyse file) codes others texts more a b has one x y =
-      says_once gives one (names_of (Analyse file)) IsAnalysed analysed texts more a b x y
+      says_of_one_kind OfText gives one (names_of (Analyse file)) IsAnalysed analysed texts more a b x y
   said_once gives shown showing (Thin file cert) codes others texts more a b has one x y =
-      says_once gives one (names_of (Thin file cert)) IsThinned thinned texts more a b x y
+      says_of_one_kind OfText gives one (names_of (Thin file cert)) IsThinned thinned texts more a b x y
   said_once gives shown showing (Run workers quiet script files) codes others texts more a b has one x y = absurd has
   said_once gives shown showing (Replay journal files) codes others texts more a b has one x y =
-      says_once gives one (names_of (Replay journal files)) IsReplayed replayed texts more a b x y
+      says_of_one_kind OfRun gives one (names_of (Replay journal files)) IsReplayed replayed texts more a b x y
   said_once gives shown showing (Show timeline picture journal files) codes others texts more a b has one x y = absurd has
   said_once gives shown showing (Explain form colour states journal warnings is_c files) codes others texts more a b has one x y =
       absurd has
   said_once gives shown showing (Extract of_map files) codes others texts more a b has one x y =
-      says_once gives one (names_of (Extract of_map files)) (IsExtracted of_map files) (extracts_once of_map files) texts more a b x y
+      says_of_one_kind OfText gives one (names_of (Extract of_map files)) (IsExtracted of_map files) (extracts_once of_map files) texts more a b x y
   said_once gives shown showing (Format modes.Print files) codes others texts more a b has one x y =
-      layouts_said_once nowhere gives one modes.Print (λ e. cc) files texts more a b x y
+      of_one_kind OfText (IsFormatSaid gives modes.Print files texts) (IsFormatSaid gives modes.Print files more)
+      (layouts_said_once nowhere gives one modes.Print (λ e. cc) files texts more) a b x y
   said_once gives shown showing (Format modes.Check files) codes others texts more a b has one x y =
-      layouts_said_once nowhere gives one modes.Check (λ e. cc) files texts more a b x y
+      of_one_kind OfText (IsFormatSaid gives modes.Check files texts) (IsFormatSaid gives modes.Check files more)
+      (layouts_said_once nowhere gives one modes.Check (λ e. cc) files texts more) a b x y
   said_once gives shown showing (Format modes.Write files) codes others texts more a b has one x y = absurd has
   said_once gives shown showing (Pages names) codes others texts more a b has one x y = absurd has
   said_once gives shown showing (Emit part file cert) codes others texts more a b has one x y = absurd has
   said_once gives shown showing (EmitInto folder file cert) codes others texts more a b has one x y = absurd has
   said_once gives shown showing (Compare files) codes others texts more a b has one x y =
-      says_once gives one (names_of (Compare files)) (IsCompared files) (compares_once files) texts more a b x y
+      says_of_one_kind OfText gives one (names_of (Compare files)) (IsCompared files) (compares_once files) texts more a b x y
   said_once gives shown showing Serve codes others texts more a b has one x y = unserved_once a b x y
 
   -- one thing is printed at most, with one exit status

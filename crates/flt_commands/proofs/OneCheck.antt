@@ -5,11 +5,11 @@ use Rattle.flt_cert.specs.declared.cert.Cert.{Cert}
 use Rattle.flt_check.specs.Accepting.{CertCovers, IsCertFault}
 use Rattle.flt_rules.specs.declared.refusal.Refusal.{Refusal}
 use Rattle.flt_commands.proofs.OneDecision.{DecidesOne}
-use Rattle.flt_commands.specs.Check.{Decides}
+use Rattle.flt_commands_texts.specs.Check.{Decides}
 use Rattle.flt_commands.specs.Single.{seen}
-use Rattle.flt_commands.specs.declared.answer.Answer.TheVariants.{Accepted, Refused, Certificate as Written, Judged, Ran}
-use Rattle.flt_commands.specs.declared.answer.Answer.TheVariants.{FileRefused, Explained, Extracted, Formatted, Pages}
-use Rattle.flt_commands.specs.declared.answer.Answer.TheVariants.{Shown, Emitted, NotEmitted, EmittedInto, Compared}
+use Rattle.flt_commands.specs.declared.answer.Answer.TheVariants.{OfText}
+use Rattle.flt_commands_texts.specs.declared.answer.TextAnswer.TheVariants.{Accepted, Refused, Certificate as Written, Extracted, Formatted}
+use Rattle.flt_commands_texts.specs.declared.answer.TextAnswer.TheVariants.{Emitted, NotEmitted, EmittedInto, Compared}
 
 -- the laws' clauses
 abbrev pub HasOneFault : Type 0
@@ -24,42 +24,24 @@ module _ (one : HasOneFault) (none : CoversWithoutFault) where
   checks_once g c Accepted Accepted x y = refl
   checks_once g c Accepted (Refused f) x y = absurd (none g c f x y)
   checks_once g c Accepted (Written d) x y = absurd y
-  checks_once g c Accepted (Judged v) x y = absurd y
-  checks_once g c Accepted (Ran ran) x y = absurd y
-  checks_once g c Accepted (FileRefused n h) x y = absurd y
-  checks_once g c Accepted (Explained r files) x y = absurd y
-  checks_once g c Accepted (Shown rows v) x y = absurd y
   checks_once g c Accepted (Extracted bytes) x y = absurd y
   checks_once g c Accepted (Formatted mode found) x y = absurd y
-  checks_once g c Accepted (Pages t) x y = absurd y
   checks_once g c Accepted (Emitted bytes) x y = absurd y
   checks_once g c Accepted (NotEmitted why) x y = absurd y
   checks_once g c Accepted (EmittedInto driver) x y = absurd y
   checks_once g c Accepted (Compared why) x y = absurd y
   checks_once g c (Refused f) Accepted x y = absurd (none g c f y x)
-  checks_once g c (Refused f) (Refused h) x y = ap (λ r. seen (Ok (Refused r))) (one g c f h x y)
+  checks_once g c (Refused f) (Refused h) x y = ap (λ r. seen (Ok (OfText (Refused r)))) (one g c f h x y)
   checks_once g c (Refused f) (Written d) x y = absurd y
-  checks_once g c (Refused f) (Judged v) x y = absurd y
-  checks_once g c (Refused f) (Ran ran) x y = absurd y
-  checks_once g c (Refused f) (FileRefused n h) x y = absurd y
-  checks_once g c (Refused f) (Explained r files) x y = absurd y
-  checks_once g c (Refused f) (Shown rows v) x y = absurd y
   checks_once g c (Refused f) (Extracted bytes) x y = absurd y
   checks_once g c (Refused f) (Formatted mode found) x y = absurd y
-  checks_once g c (Refused f) (Pages t) x y = absurd y
   checks_once g c (Refused f) (Emitted bytes) x y = absurd y
   checks_once g c (Refused f) (NotEmitted why) x y = absurd y
   checks_once g c (Refused f) (EmittedInto driver) x y = absurd y
   checks_once g c (Refused f) (Compared why) x y = absurd y
   checks_once g c (Written d) b x y = absurd x
-  checks_once g c (Judged v) b x y = absurd x
-  checks_once g c (Ran ran) b x y = absurd x
-  checks_once g c (FileRefused n h) b x y = absurd x
-  checks_once g c (Explained r files) b x y = absurd x
-  checks_once g c (Shown rows v) b x y = absurd x
   checks_once g c (Extracted bytes) b x y = absurd x
   checks_once g c (Formatted mode found) b x y = absurd x
-  checks_once g c (Pages t) b x y = absurd x
   checks_once g c (Emitted bytes) b x y = absurd x
   checks_once g c (NotEmitted why) b x y = absurd x
   checks_once g c (EmittedInto driver) b x y = absurd x

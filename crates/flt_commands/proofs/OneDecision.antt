@@ -12,13 +12,15 @@ use Rattle.flt_graph.specs.Lowering.{IsLowered}
 use Rattle.flt_graph.specs.declared.graph.Graph.{Graph}
 use Rattle.flt_cert.specs.Spelling.{IsFirstFault, is_cert, spelling}
 use Rattle.flt_cert.specs.declared.cert.Cert.{Cert}
-use Rattle.flt_commands.specs.Check.{Deciding, HasPoints, IsAnswer, IsDecided, IsFailure, Judges, JudgesTogether}
-use Rattle.flt_commands.specs.Inputs.{Text}
+use Rattle.flt_commands_texts.specs.Check.{Deciding, HasPoints, IsAnswer, IsDecided, IsFailure, Judges, JudgesTogether}
+use Rattle.flt_files.specs.Inputs.{Text}
+use Rattle.flt_commands.specs.Answer.{of_text}
 use Rattle.flt_commands.specs.Single.{AreSame, SaysOne, seen, told}
-use Rattle.flt_commands.specs.Split.{IsCertificateStart, is_header_at}
-use Rattle.flt_commands.specs.declared.answer.Answer.{Answer}
-use Rattle.flt_commands.specs.declared.failure.Failure.{Failure}
-use Rattle.flt_commands.specs.declared.failure.Failure.TheVariants.{Syntax, Certificate as CertificateLine, OutOfMemory}
+use Rattle.flt_files.specs.Split.{IsCertificateStart, is_header_at}
+use Rattle.flt_commands.specs.declared.answer.Answer.TheVariants.{OfText}
+use Rattle.flt_commands_texts.specs.declared.answer.TextAnswer.{TextAnswer}
+use Rattle.flt_files.specs.declared.failure.Failure.{Failure}
+use Rattle.flt_files.specs.declared.failure.Failure.TheVariants.{Syntax, Certificate as CertificateLine, OutOfMemory}
 
 -- ---- the graph
 
@@ -53,7 +55,7 @@ module _ (bytes : Text) where
 
 -- of a graph and a certificate one answer is decided at most
 abbrev pub DecidesOne : Deciding → Type 0
-DecidesOne decides = (g : Graph) (c : Cert) (a b : Answer) → decides g c a → decides g c b → seen (Ok a) ≡ seen (Ok b)
+DecidesOne decides = (g : Graph) (c : Cert) (a b : TextAnswer) → decides g c a → decides g c b → seen (Ok (OfText a)) ≡ seen (Ok (OfText b))
 
 module _ (decides : Deciding) (decided_once : DecidesOne decides)
     (graph : (text : Text) (g h : Graph) → HasPoints text g → HasPoints text h → g ≡ h)
@@ -61,15 +63,15 @@ module _ (decides : Deciding) (decided_once : DecidesOne decides)
     (spelled : (k l : Cert) → IsTrue (is_cert k) → IsTrue (is_cert l) → spelling k ≡ spelling l → k ≡ l)
     (first : (text : Text) (m n : ℕ) → IsFirstFault text m → IsFirstFault text n → m ≡ n)
     (none : (k : Cert) (n : ℕ) → IsTrue (is_cert k) → ¬ IsFirstFault (spelling k) n) where
-  answers_once : (text certificate : Text) (a b : Answer) → IsAnswer decides text certificate a → IsAnswer decides text certificate b →
-      seen (Ok a) ≡ seen (Ok b)
+  answers_once : (text certificate : Text) (a b : TextAnswer) → IsAnswer decides text certificate a → IsAnswer decides text certificate b →
+      seen (Ok (OfText a)) ≡ seen (Ok (OfText b))
   answers_once text certificate a b x y =
       let points : y.graph ≡ x.graph = graph text y.graph x.graph y.points x.points in
       let cert : y.cert ≡ x.cert = spelled y.cert x.cert y.certified x.certified (sym y.written ∙ x.written) in
       decided_once x.graph x.cert a b x.decided (subst (λ g. decides g x.cert b) points (subst (λ k. decides y.graph k b) cert y.decided))
 
   -- an answer stands beside no failure
-  not_both : (text certificate : Text) (a : Answer) (f : Failure) → IsAnswer decides text certificate a → IsFailure text certificate f →
+  not_both : (text certificate : Text) (a : TextAnswer) (f : Failure) → IsAnswer decides text certificate a → IsFailure text certificate f →
       f ≢ OutOfMemory → ⊥
   not_both text certificate a (Syntax e) x y told = nowhere text x.points.filter e x.points.spelled y
   not_both text certificate a (CertificateLine n) x y told = none x.cert n x.certified (subst (λ c. IsFirstFault c n) x.written y.1)
@@ -89,22 +91,22 @@ module _ (decides : Deciding) (decided_once : DecidesOne decides)
   failures_once text certificate (CertificateLine n) h x y p q = absurd y
   failures_once text certificate f h x y p q = absurd x
 
-  judged_once : (text certificate : Text) (a b : Result Answer Failure) → Judges decides text certificate a →
-      Judges decides text certificate b → AreSame a b
+  judged_once : (text certificate : Text) (a b : Result TextAnswer Failure) → Judges decides text certificate a →
+      Judges decides text certificate b → AreSame (of_text a) (of_text b)
   judged_once text certificate (Ok a) (Ok b) x y p q = answers_once text certificate a b x y
   judged_once text certificate (Ok a) (Err f) x y p q = absurd (not_both text certificate a f x y (λ e. q (ap Err e)))
   judged_once text certificate (Err f) (Ok b) x y p q = absurd (not_both text certificate b f y x (λ e. p (ap Err e)))
   judged_once text certificate (Err f) (Err h) x y p q =
       ap Err (failures_once text certificate f h x y (λ e. p (ap Err e)) (λ e. q (ap Err e)))
 
-  together_once : (bytes : Text) (a b : Result Answer Failure) →
-      JudgesTogether decides bytes a → JudgesTogether decides bytes b → AreSame a b
+  together_once : (bytes : Text) (a b : Result TextAnswer Failure) →
+      JudgesTogether decides bytes a → JudgesTogether decides bytes b → AreSame (of_text a) (of_text b)
   together_once bytes a b x y =
       let start : y.0 ≡ x.0 = start_once bytes y.0 x.0 y.1 x.1 in
       judged_once (take x.0 bytes) (drop x.0 bytes) a b x.2 (subst (λ n. Judges decides (take n bytes) (drop n bytes) b) start y.2)
 
   -- of some bytes one thing is said at most
-  pub bytes_decided_once : SaysOne (IsDecided decides)
+  pub bytes_decided_once : SaysOne OfText (IsDecided decides)
   bytes_decided_once [] a b x y = absurd x
   bytes_decided_once (bytes ∷ []) a b x y = together_once bytes a b x y
   bytes_decided_once (text ∷ certificate ∷ []) a b x y = judged_once text certificate a b x y

@@ -5,21 +5,22 @@ use Rattle.std.proofs.lemmas.Grind.{flat_map-append}
 use Rattle.std.proofs.lemmas.List.{same_from_push}
 use Rattle.std.proofs.lemmas.Option.{none-some, same_Some}
 use Rattle.std.specs.List.{list_any}
-use Rattle.flt_commands.proofs.Firsts.{any_more}
+use Rattle.flt_files.proofs.Firsts.{any_more}
 use Rattle.flt_commands.proofs.OneDecision.{start_once}
-use Rattle.flt_commands.specs.Answer.{told_status}
-use Rattle.flt_commands.specs.Format.{AreOutcomes, ComesTo, HasNoLayout, IsFormatSaid, IsLayout, IsOutcome}
-use Rattle.flt_commands.specs.Format.{MayBe, is_unwritten, none as no_outcome, one_more}
-use Rattle.flt_commands.specs.Inputs.{AreRead, Giving, IsMissing, Text, is_standard, missing, none, read, unread_names}
-use Rattle.flt_commands.specs.Outcomes.{files_status, is_failed, is_other, layout_in, printed, unformatted_line}
+use Rattle.flt_files.specs.Unread.{status_beside}
+use Rattle.flt_commands_texts.specs.Format.{AreOutcomes, ComesTo, HasNoLayout, IsFormatSaid, IsLayout, IsOutcome}
+use Rattle.flt_commands_texts.specs.Format.{MayBe, is_unwritten, none as no_outcome, one_more}
+use Rattle.flt_files.specs.Inputs.{AreRead, Giving, IsMissing, Text, is_standard, missing, none, read, unread_names}
+use Rattle.flt_commands_texts.specs.Outcomes.{files_status, is_failed, is_other, layout_in, printed, unformatted_line}
+use Rattle.flt_commands.specs.Answer.{of_text}
 use Rattle.flt_commands.specs.Single.{AreSame, GivesOne}
-use Rattle.flt_commands.specs.declared.answer.Answer.{Answer}
-use Rattle.flt_commands.specs.declared.answer.Answer.TheVariants.{Formatted}
-use Rattle.flt_commands.specs.declared.failure.Failure.{Failure}
-use Rattle.flt_commands.specs.declared.outcomes.FileOutcome.{FileOutcome}
-use Rattle.flt_commands.specs.declared.outcomes.Outcome.{Outcome}
-use Rattle.flt_commands.specs.declared.outcomes.Outcome.TheVariants.{Same, Other, Unwritten, Fault, Long}
-use Rattle.flt_explain_forms.specs.declared.unread.UnreadFile.{UnreadFile}
+use Rattle.flt_commands_texts.specs.declared.answer.TextAnswer.{TextAnswer}
+use Rattle.flt_commands_texts.specs.declared.answer.TextAnswer.TheVariants.{Formatted}
+use Rattle.flt_files.specs.declared.failure.Failure.{Failure}
+use Rattle.flt_commands_texts.specs.declared.outcomes.FileOutcome.{FileOutcome}
+use Rattle.flt_commands_texts.specs.declared.outcomes.Outcome.{Outcome}
+use Rattle.flt_commands_texts.specs.declared.outcomes.Outcome.TheVariants.{Same, Other, Unwritten, Fault, Long}
+use Rattle.flt_files.specs.declared.unread.UnreadFile.{UnreadFile}
 use Rattle.flt_layout.specs.Layout.{laid_out}
 use Rattle.flt_layout.specs.declared.formatted.FormatError.TheVariants as error
 use Rattle.flt_syntax.specs.Spelling.{Spells}
@@ -182,7 +183,7 @@ module _ (nowhere : SpelledFailsNowhere) where
   status_once mode files others same = rw (same.failing, same.differing) refl
 
   told_once : (m n : ℕ) (unread left : List UnreadFile) → m ≡ n → unread_names unread ≡ unread_names left →
-      told_status m unread ≡ told_status n left
+      status_beside m unread ≡ status_beside n left
   told_once m n [] [] same named = same
   told_once m n (f ∷ fs) (g ∷ gs) same named = refl
   told_once m n [] (g ∷ gs) same named = absurd (cc named)
@@ -190,13 +191,14 @@ module _ (nowhere : SpelledFailsNowhere) where
 
   -- one thing is said
   pub layouts_said_once : (gives : Giving) → GivesOne gives → (mode : FormatMode) → mode ≢ modes.Write → (files texts more : List Text)
-      (a b : Result Answer Failure) → IsFormatSaid gives mode files texts a → IsFormatSaid gives mode files more b → AreSame a b
+      (a b : Result TextAnswer Failure) → IsFormatSaid gives mode files texts a → IsFormatSaid gives mode files more b →
+      AreSame (of_text a) (of_text b)
   layouts_said_once gives one mode other files texts more (Ok (Formatted m a)) (Ok (Formatted n b)) x y =
       let once = read_once gives one files files x.1.names y.1.names texts more (unread_names a.unread.items)
       (unread_names b.unread.items) refl x.1.read y.1.read in
       let seen = outcomes_once mode other x.1.names y.1.names texts more a.files.items b.files.items once.0 once.1.0 x.1.are y.1.are in
       let prints : flat_map (printed m) a.files.items ≡ flat_map (printed n) b.files.items = rw (x.0, y.0) seen.prints in
-      let status : told_status (files_status m a.files.items) a.unread.items ≡ told_status (files_status n b.files.items) b.unread.items =
+      let status : status_beside (files_status m a.files.items) a.unread.items ≡ status_beside (files_status n b.files.items) b.unread.items =
       rw (x.0, y.0) (told_once _ _ a.unread.items b.unread.items (status_once mode a.files.items b.files.items seen) once.1.1) in
       λ p q. rw (prints, status) refl
   layouts_said_once gives one mode other files texts more (Ok (Formatted m a)) (Ok _) x y = absurd y

@@ -5,13 +5,14 @@ use Rattle.std.proofs.lemmas.Bool.{and_parts}
 use Rattle.std.proofs.lemmas.List.Sums.{sum_by-append, sum_by-cons}
 use Rattle.std.proofs.lemmas.Option.{none-some, same_Some}
 use Rattle.std.specs.List.{list_any}
-use Rattle.flt_commands.proofs.OnePlace.{Places, same, earlier, later, places, zipped_at, zipped_once}
-use Rattle.flt_commands.specs.Inputs.{AreGiven, Giving, IsMissing, IsUnread, IsUnreadable}
-use Rattle.flt_commands.specs.Inputs.{NamesFail, Says, unread, given, Text, is_standard}
+use Rattle.flt_files.proofs.OnePlace.{Places, same, earlier, later, places, zipped_at, zipped_once}
+use Rattle.flt_files.specs.Inputs.{AreGiven, Giving, IsMissing, IsUnread, IsUnreadable}
+use Rattle.flt_files.specs.Inputs.{NamesFail, Says, unread, given, Text, is_standard}
+use Rattle.flt_commands.specs.Answer.{answered}
 use Rattle.flt_commands.specs.Single.{AreSame, GivesOne, SaysOne, told}
 use Rattle.flt_commands.specs.declared.answer.Answer.{Answer}
-use Rattle.flt_commands.specs.declared.failure.Failure.{Failure}
-use Rattle.flt_commands.specs.declared.failure.Failure.TheVariants.{CannotRead, OutOfMemory}
+use Rattle.flt_files.specs.declared.failure.Failure.{Failure}
+use Rattle.flt_files.specs.declared.failure.Failure.TheVariants.{CannotRead, OutOfMemory}
 
 -- ---- counting
 
@@ -90,15 +91,15 @@ module _ (gives : Giving) (one : GivesOne gives) where
       told_unread a.name f a.told ∙ ap unread_name name ∙ sym (told_unread b.name h b.told)
 
   -- what is said where names are read is one thing, if it is for what they give
-  pub says_once : (names : List Text) (IsSaidOf : List Text → Result Answer Failure → Type 0) → SaysOne IsSaidOf →
-      (texts more : List Text) (a b : Result Answer Failure) →
-      Says gives names IsSaidOf texts a → Says gives names IsSaidOf more b → AreSame a b
-  says_once names IsSaidOf once texts more _ _ (unread f fails) (unread h others) p q =
+  pub says_once : {A : Type 0} (kind : A → Answer) (names : List Text) (IsSaidOf : List Text → Result A Failure → Type 0) →
+      SaysOne kind IsSaidOf → (texts more : List Text) (a b : Result A Failure) → Says gives names IsSaidOf texts a →
+      Says gives names IsSaidOf more b → AreSame (answered kind a) (answered kind b)
+  says_once kind names IsSaidOf once texts more _ _ (unread f fails) (unread h others) p q =
       ap Err (unread_once names f h (unreadable gives names f (λ e. p (ap Err e)) fails)
       (unreadable gives names h (λ e. q (ap Err e)) others))
-  says_once names IsSaidOf once texts more _ _ (unread f fails) (given b there said) p q =
+  says_once kind names IsSaidOf once texts more _ _ (unread f fails) (given b there said) p q =
       absurd (all_or_none names f more (unreadable gives names f (λ e. p (ap Err e)) fails) there)
-  says_once names IsSaidOf once texts more _ _ (given a there said) (unread h others) p q =
+  says_once kind names IsSaidOf once texts more _ _ (given a there said) (unread h others) p q =
       absurd (all_or_none names h texts (unreadable gives names h (λ e. q (ap Err e)) others) there)
-  says_once names IsSaidOf once texts more _ _ (given a there said) (given b also other) p q =
+  says_once kind names IsSaidOf once texts more _ _ (given a there said) (given b also other) p q =
       once texts a b said (subst (λ ts. IsSaidOf ts b) (sym (texts_once names texts more there also)) other) p q

@@ -3,10 +3,10 @@ use Rattle.std.proofs.Common.{◌≡◌, Ok, sym, ap, ◌∙◌}
 use Rattle.flt_commands.proofs.OneCheck.{CoversWithoutFault, HasOneFault}
 use Rattle.flt_commands.proofs.OneDecision.{DecidesOne}
 use Rattle.flt_commands.specs.Single.{seen}
-use Rattle.flt_commands.specs.Thin.{Decides}
-use Rattle.flt_commands.specs.declared.answer.Answer.TheVariants.{Accepted, Refused, Certificate as Written, Judged, Ran}
-use Rattle.flt_commands.specs.declared.answer.Answer.TheVariants.{FileRefused, Explained, Extracted, Formatted, Pages}
-use Rattle.flt_commands.specs.declared.answer.Answer.TheVariants.{Shown, Emitted, NotEmitted, EmittedInto, Compared}
+use Rattle.flt_commands_texts.specs.Thin.{Decides}
+use Rattle.flt_commands.specs.declared.answer.Answer.TheVariants.{OfText}
+use Rattle.flt_commands_texts.specs.declared.answer.TextAnswer.TheVariants.{Accepted, Refused, Certificate as Written, Extracted, Formatted}
+use Rattle.flt_commands_texts.specs.declared.answer.TextAnswer.TheVariants.{Emitted, NotEmitted, EmittedInto, Compared}
 
 module _ (one : HasOneFault) (none : CoversWithoutFault) where
   -- of a graph and a certificate one answer is decided at most
@@ -14,42 +14,24 @@ module _ (one : HasOneFault) (none : CoversWithoutFault) where
   thins_once g c (Written d) (Written e) x y = let same : d.items ≡ e.items = x.1 ∙ sym y.1 in cc
   thins_once g c (Written d) (Refused f) x y = absurd (none g c f x.0 y)
   thins_once g c (Written d) Accepted x y = absurd y
-  thins_once g c (Written d) (Judged v) x y = absurd y
-  thins_once g c (Written d) (Ran ran) x y = absurd y
-  thins_once g c (Written d) (FileRefused n h) x y = absurd y
-  thins_once g c (Written d) (Explained r files) x y = absurd y
-  thins_once g c (Written d) (Shown rows v) x y = absurd y
   thins_once g c (Written d) (Extracted bytes) x y = absurd y
   thins_once g c (Written d) (Formatted mode found) x y = absurd y
-  thins_once g c (Written d) (Pages t) x y = absurd y
   thins_once g c (Written d) (Emitted bytes) x y = absurd y
   thins_once g c (Written d) (NotEmitted why) x y = absurd y
   thins_once g c (Written d) (EmittedInto driver) x y = absurd y
   thins_once g c (Written d) (Compared why) x y = absurd y
   thins_once g c (Refused f) (Written d) x y = absurd (none g c f y.0 x)
-  thins_once g c (Refused f) (Refused h) x y = ap (λ r. seen (Ok (Refused r))) (one g c f h x y)
+  thins_once g c (Refused f) (Refused h) x y = ap (λ r. seen (Ok (OfText (Refused r)))) (one g c f h x y)
   thins_once g c (Refused f) Accepted x y = absurd y
-  thins_once g c (Refused f) (Judged v) x y = absurd y
-  thins_once g c (Refused f) (Ran ran) x y = absurd y
-  thins_once g c (Refused f) (FileRefused n h) x y = absurd y
-  thins_once g c (Refused f) (Explained r files) x y = absurd y
-  thins_once g c (Refused f) (Shown rows v) x y = absurd y
   thins_once g c (Refused f) (Extracted bytes) x y = absurd y
   thins_once g c (Refused f) (Formatted mode found) x y = absurd y
-  thins_once g c (Refused f) (Pages t) x y = absurd y
   thins_once g c (Refused f) (Emitted bytes) x y = absurd y
   thins_once g c (Refused f) (NotEmitted why) x y = absurd y
   thins_once g c (Refused f) (EmittedInto driver) x y = absurd y
   thins_once g c (Refused f) (Compared why) x y = absurd y
   thins_once g c Accepted b x y = absurd x
-  thins_once g c (Judged v) b x y = absurd x
-  thins_once g c (Ran ran) b x y = absurd x
-  thins_once g c (FileRefused n h) b x y = absurd x
-  thins_once g c (Explained r files) b x y = absurd x
-  thins_once g c (Shown rows v) b x y = absurd x
   thins_once g c (Extracted bytes) b x y = absurd x
   thins_once g c (Formatted mode found) b x y = absurd x
-  thins_once g c (Pages t) b x y = absurd x
   thins_once g c (Emitted bytes) b x y = absurd x
   thins_once g c (NotEmitted why) b x y = absurd x
   thins_once g c (EmittedInto driver) b x y = absurd x

@@ -12,15 +12,17 @@ use Rattle.flt_model.specs.Expansion.{verdict}
 use Rattle.flt_model.specs.JournalText.{Entries, IsFirstFault, IsJournal, spelling}
 use Rattle.flt_model.specs.Program.{HasDistinctAltitudes, IsRepeated}
 use Rattle.flt_model.specs.declared.verdict.Verdict.{Verdict}
-use Rattle.flt_commands.proofs.OnePlace.{Places, same, earlier, later, places, zipped_at, zipped_once}
-use Rattle.flt_commands.specs.Inputs.{Text}
-use Rattle.flt_commands.specs.Replay.{IsFailure, IsReplayed, IsVerdict, Judges}
+use Rattle.flt_files.proofs.OnePlace.{Places, same, earlier, later, places, zipped_at, zipped_once}
+use Rattle.flt_files.specs.Inputs.{Text}
+use Rattle.flt_commands_runs.specs.Replay.{IsFailure, IsReplayed, IsVerdict, Judges}
 use Rattle.flt_syntax.specs.Texts.{AreSpelled, IsSyntaxFault}
+use Rattle.flt_commands.specs.Answer.{of_run}
 use Rattle.flt_commands.specs.Single.{AreSame, SaysOne, seen, told}
-use Rattle.flt_commands.specs.declared.answer.Answer.{Answer}
-use Rattle.flt_commands.specs.declared.answer.Answer.TheVariants.{Judged}
-use Rattle.flt_commands.specs.declared.failure.Failure.{Failure}
-use Rattle.flt_commands.specs.declared.failure.Failure.TheVariants.{TooManyFiles, FileSyntax, JournalLine, Altitude, OutOfMemory}
+use Rattle.flt_commands.specs.declared.answer.Answer.TheVariants.{OfRun}
+use Rattle.flt_commands_runs.specs.declared.answer.RunAnswer.{RunAnswer}
+use Rattle.flt_commands_runs.specs.declared.answer.RunAnswer.TheVariants.{Judged}
+use Rattle.flt_files.specs.declared.failure.Failure.{Failure}
+use Rattle.flt_files.specs.declared.failure.Failure.TheVariants.{TooManyFiles, FileSyntax, JournalLine, Altitude, OutOfMemory}
 
 -- ---- altitudes
 
@@ -150,9 +152,9 @@ module _ (one : SpellsAtMostOne) (nowhere : SpelledFailsNowhere) (once : FailsAt
   failures_once journal texts (Altitude m) h x y p q = absurd y
   failures_once journal texts f h x y p q = absurd x
 
-  judged_once : (journal : Text) (texts : List Text) (a b : Result Answer Failure) → Judges journal texts a →
-      Judges journal texts b → AreSame a b
-  judged_once journal texts (Ok (Judged v)) (Ok (Judged w)) x y p q = ap (λ u. seen (Ok (Judged u))) (verdict_once journal texts v w x y)
+  judged_once : (journal : Text) (texts : List Text) (a b : Result RunAnswer Failure) → Judges journal texts a →
+      Judges journal texts b → AreSame (of_run a) (of_run b)
+  judged_once journal texts (Ok (Judged v)) (Ok (Judged w)) x y p q = ap (λ u. seen (Ok (OfRun (Judged u)))) (verdict_once journal texts v w x y)
   judged_once journal texts (Ok (Judged v)) (Err f) x y p q = absurd (not_both journal texts v f x y (λ e. q (ap Err e)))
   judged_once journal texts (Err f) (Ok (Judged v)) x y p q = absurd (not_both journal texts v f y x (λ e. p (ap Err e)))
   judged_once journal texts (Err f) (Err h) x y p q = ap Err (failures_once journal texts f h x y (λ e. p (ap Err e)) (λ e. q (ap Err e)))
@@ -161,6 +163,6 @@ module _ (one : SpellsAtMostOne) (nowhere : SpelledFailsNowhere) (once : FailsAt
   judged_once journal texts (Ok a) b x y p q = absurd x
 
   -- of some bytes `replay` says one thing at most
-  pub replayed_once : SaysOne IsReplayed
+  pub replayed_once : SaysOne OfRun IsReplayed
   replayed_once [] a b x y = absurd x
   replayed_once (journal ∷ texts) a b x y = judged_once journal texts a b x y

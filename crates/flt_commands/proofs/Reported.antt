@@ -5,19 +5,22 @@ use Rattle.std.proofs.Math.Path.{subst}
 use Rattle.flt_syntax.specs.TextFails.{SpelledFailsNowhere}
 use Rattle.flt_commands.proofs.Covered.{Law, LawOfRuns, clean_of}
 use Rattle.flt_commands.specs.Commands.{Answers, AnswersFor, AnswersSomehow, AreThose, HasCodes, HoldsBack, IsAnswered}
-use Rattle.flt_commands.specs.Commands.{IsBefore, IsCutShort, IsKept, IsKeptAs, IsRemarked, NamesNoJournal, IsRemarkedAfter}
+use Rattle.flt_commands.specs.Commands.{IsBefore, IsCutShort, IsKept, IsRemarked, NamesNoJournal, IsRemarkedAfter}
 use Rattle.flt_commands.specs.Commands.{IsReported, IsSaid, codes_of, giving_for, texts_in}
-use Rattle.flt_commands.specs.Attempts.{Attempt}
-use Rattle.flt_commands.specs.Drawn.{IsDrawnFor}
-use Rattle.flt_commands.specs.EmitInto.{ArePut}
-use Rattle.flt_commands.specs.Explain.{ArePaged, IsSpelledAs, IsWritten}
-use Rattle.flt_commands.specs.Format.{AreChanged}
-use Rattle.flt_explain_runs.specs.Noted.{first_journal}
+use Rattle.flt_files.specs.Attempts.{Attempt}
+use Rattle.flt_commands_runs.specs.Drawn.{IsDrawnFor}
+use Rattle.flt_commands_runs.specs.Replay.{IsKeptAs}
+use Rattle.flt_commands_texts.specs.EmitInto.{ArePut}
+use Rattle.flt_commands_explain.specs.Explain.{ArePaged, IsSpelledAs, IsWritten}
+use Rattle.flt_commands_texts.specs.Format.{AreChanged}
+use Rattle.flt_explain_outcomes.specs.Noted.{first_journal}
 use Rattle.std.specs.Prelude.{⊤}
-use Rattle.flt_commands.specs.Inputs.{Giving, Says, Text, given}
-use Rattle.flt_commands.specs.Remarks.{IsFound, unread_in, unread_lines}
-use Rattle.flt_commands.specs.Answer.{status_of, told_status}
-use Rattle.flt_explain_forms.specs.declared.unread.UnreadFile.{UnreadFile}
+use Rattle.flt_files.specs.Inputs.{Giving, Says, Text, given}
+use Rattle.flt_commands_explain.specs.Remarks.{IsFound, unread_in, unread_lines}
+use Rattle.flt_commands.specs.Answer.{of_explain, of_run}
+use Rattle.flt_commands_explain.specs.Answer.{status_of as explain_status}
+use Rattle.flt_files.specs.Unread.{status_beside}
+use Rattle.flt_files.specs.declared.unread.UnreadFile.{UnreadFile}
 use Rattle.flt_model.specs.JournalText.{Entries}
 use Rattle.flt_words.specs.Request.{Asked, Choice, EmitInto, Explain, Format, Show}
 use Rattle.flt_words.specs.Words.{asked}
@@ -25,12 +28,14 @@ use Rattle.flt_words.specs.declared.request.Colour.{Colour}
 use Rattle.flt_words.specs.declared.request.Form.{Form}
 use Rattle.flt_words.specs.declared.request.FormatMode.TheVariants.{Write}
 use Rattle.flt_commands.specs.declared.answer.Answer.{Answer}
-use Rattle.flt_commands.specs.declared.answer.Answer.TheVariants.{Accepted, Refused, Certificate, Judged, Explained}
-use Rattle.flt_commands.specs.declared.answer.Answer.TheVariants.{Extracted, Formatted, Pages, Ran, FileRefused, Shown}
-use Rattle.flt_commands.specs.declared.answer.Answer.TheVariants.{Emitted, NotEmitted, EmittedInto, Compared}
-use Rattle.flt_commands.specs.declared.failure.Failure.{Failure}
-use Rattle.flt_commands.specs.declared.fault.CommandFault.{CommandFault}
-use Rattle.flt_commands.specs.declared.fault.CommandFault.TheVariants.{OutOfMemory}
+use Rattle.flt_commands_explain.specs.declared.answer.ExplainAnswer.{ExplainAnswer}
+use Rattle.flt_commands_explain.specs.declared.answer.ExplainAnswer.TheVariants.{Explained, Pages}
+use Rattle.flt_commands_runs.specs.declared.answer.RunAnswer.{RunAnswer}
+use Rattle.flt_commands_texts.specs.declared.answer.TextAnswer.{TextAnswer}
+use Rattle.flt_commands_texts.specs.declared.answer.TextAnswer.TheVariants.{EmittedInto, Formatted}
+use Rattle.flt_files.specs.declared.failure.Failure.{Failure}
+use Rattle.flt_commands_explain.specs.declared.fault.CommandFault.{CommandFault}
+use Rattle.flt_commands_explain.specs.declared.fault.CommandFault.TheVariants.{OutOfMemory}
 use Rattle.flt_commands.specs.declared.report.Report.{Report}
 
 -- ---- what was read is what the report has
@@ -41,19 +46,26 @@ pub those_of : (texts : Vec (Vec ℕ Global) Global) (result : Result Report Com
 those_of texts (Ok report) same = ap (λ (ts : Vec (Vec ℕ Global) Global). map (λ text. text.items) ts.items) (sym same)
 those_of texts (Err f) same = tt
 
+-- the entries that a command kept are those of its answer
+kept_as : (journal : Option Entries) (bytes : Text) (own : Result RunAnswer Failure) → IsKeptAs journal bytes own →
+    IsKeptAs journal bytes (of_run own)
+kept_as (Some entries) bytes (Ok answer) is = is
+kept_as None bytes (Ok answer) is = is
+kept_as journal bytes (Err f) is = is
+
 -- of a journal and texts
-pub those_after : (bytes : Text) (texts : Vec (Vec ℕ Global) Global) (journal : Option Entries) (said : Result Answer Failure)
-    (result : Result Report CommandFault) → IfOk result (λ report. report.texts ≡ texts) →
-    IfOk result (λ report. report.journal ≡ journal) →
-    IsKeptAs journal bytes said →
+pub those_after : (bytes : Text) (texts : Vec (Vec ℕ Global) Global) (journal : Option Entries) (own : Result RunAnswer Failure)
+    (said : Result Answer Failure) (result : Result Report CommandFault) → said ≡ of_run own →
+    IfOk result (λ report. report.texts ≡ texts) → IfOk result (λ report. report.journal ≡ journal) → IsKeptAs journal bytes own →
     IfOk result (λ report. (first : Text) × (bytes ∷ map (λ text. text.items) texts.items ≡ first ∷ texts_in report)
     × IsKeptAs report.journal first said)
-those_after bytes texts journal said (Ok report) same kept is = (
+those_after bytes texts journal own said (Ok report) is same kept has = (
   bytes,
   ap (λ (ts : Vec (Vec ℕ Global) Global). bytes ∷ map (λ text. text.items) ts.items) (sym same),
-  subst (λ (entries : Option Entries). IsKeptAs entries bytes said) (sym kept) is,
+  subst (λ (s : Result Answer Failure). IsKeptAs report.journal bytes s) (sym is)
+      (kept_as report.journal bytes own (subst (λ (entries : Option Entries). IsKeptAs entries bytes own) (sym kept) has)),
 )
-those_after bytes texts journal said (Err f) same kept is = tt
+those_after bytes texts journal own said (Err f) is same kept has = tt
 
 -- the C files that a report is given are those that it has
 pub codes_given : (codes : Vec (Option (Vec ℕ Global)) Global) (result : Result Report CommandFault) →
@@ -76,8 +88,8 @@ none_are_had _ report none = none
 -- ---- pages, and what stands before a line
 
 -- what is said of pages is said of no input
-pub says_of_pages : (gives : Giving) (names texts : List Text) (said : Result Answer Failure) → texts ≡ [] → ArePaged names said →
-    Says gives [] (λ texts. ArePaged names) texts said
+pub says_of_pages : (gives : Giving) (names texts : List Text) (said : Result ExplainAnswer Failure) → texts ≡ [] → ArePaged names said →
+    Says gives [] (λ read. ArePaged names) texts said
 says_of_pages gives names texts said none is = given said (rw none (record { each = tt; once = omega arith })) is
 
 -- what was remarked after a request is what is remarked on it
@@ -89,11 +101,22 @@ remarked_after request before said (Err f) first is = tt
 
 -- where a picture is named, it is written, and where none is, all that is written stays as it was
 pub kept_shown : (written : Text → Text → Type 0) (does : List Attempt → Type 0) (timeline : Bool) (picture : Option (Bor Text))
-    (journal : Text) (files : List Text) (bytes : Text) (texts : List Text) (said : Result Answer Failure) →
-    IsDrawnFor written (option_map (λ name. name.now) picture) texts said → (picture ≡ None → does []) →
+    (journal : Text) (files : List Text) (bytes : Text) (texts : List Text) (own : Result RunAnswer Failure)
+    (said : Result Answer Failure) → said ≡ of_run own → IsDrawnFor written (option_map (λ name. name.now) picture) texts own →
+    (picture ≡ None → does []) →
     IsKept written does (Show timeline (option_map (λ name. name.now) picture) journal files) (bytes ∷ texts) said
-kept_shown written does timeline (Some name) journal files bytes texts said drawn none = drawn
-kept_shown written does timeline None journal files bytes texts said drawn none = none refl
+kept_shown written does timeline (Some name) journal files bytes texts own said is drawn none = (own, is, drawn)
+kept_shown written does timeline None journal files bytes texts own said is drawn none = none refl
+
+-- beside a journal that is shown nothing is said
+own_before : (P : Type 0) (own : Result RunAnswer Failure) → OnOk own P → OnOk (of_run own) P
+own_before P (Ok answer) is = is
+own_before P (Err f) is = tt
+
+pub before_shown : (before : List ℕ) (own : Result RunAnswer Failure) (said : Result Answer Failure) → said ≡ of_run own →
+    OnOk own (before ≡ []) → OnOk said (before ≡ [])
+before_shown before own said is none =
+    subst (λ (s : Result Answer Failure). OnOk s (before ≡ [])) (sym is) (own_before (before ≡ []) own none)
 
 -- ---- with the exit status 0 or 1 nothing is remarked
 
@@ -107,40 +130,27 @@ quiet_shown P before (Err f) (Ok report) none reported same = λ good p. absurd 
 quiet_shown P before said (Err e) none reported same = tt
 
 -- where each file is read, nothing is said of one that isn't
-none_unread : (status : ℕ) (unread : List UnreadFile) → told_status status unread ≢ 2 → flat_map unread_lines unread ≡ []
+none_unread : (status : ℕ) (unread : List UnreadFile) → status_beside status unread ≢ 2 → flat_map unread_lines unread ≡ []
 none_unread status [] good = refl
 none_unread status (file ∷ files) good = absurd (good refl)
 
-unread_none : (answer : Answer) → status_of answer ≢ 2 → unread_in answer ≡ []
+unread_none : (answer : ExplainAnswer) → explain_status answer ≢ 2 → unread_in answer ≡ []
 unread_none (Explained e unread) good = none_unread e.explained.status unread.items good
-unread_none Accepted good = refl
-unread_none (Refused f) good = refl
-unread_none (Certificate bytes) good = refl
-unread_none (Judged v) good = refl
-unread_none (Extracted bytes) good = refl
-unread_none (Formatted mode found) good = refl
 unread_none (Pages pages) good = refl
-unread_none (Ran ran) good = refl
-unread_none (Shown rows v) good = refl
-unread_none (FileRefused n f) good = refl
-unread_none (Emitted bytes) good = refl
-unread_none (NotEmitted why) good = refl
-unread_none (EmittedInto driver) good = refl
-unread_none (Compared why) good = refl
 
 -- of what `explain` says, where no file is named for a journal
 pub quiet_for : (form : Form) (colour : Colour) (states : ℕ) (journal : Option Text) (warnings : Choice) (is_c : Bool) (files : List Text)
-    (before : List ℕ) (said : Result Answer Failure) (result : Result Report CommandFault) → IsFound journal said before →
-    IfOk result (λ report. IsReported said report.output.items report.status) →
+    (before : List ℕ) (own : Result ExplainAnswer Failure) (result : Result Report CommandFault) → IsFound journal own before →
+    IfOk result (λ report. IsReported (of_explain own) report.output.items report.status) →
     IfOk result (λ report. report.status ≢ 2 → report.remark.items ≡ before) →
     IfOk result (λ report. report.status ≢ 2 → NamesNoJournal (Some (Explain form colour states journal warnings is_c files)) →
     report.remark.items ≡ [])
-quiet_for form colour states (Some name) warnings is_c files before said (Ok report) found reported same = λ good names. absurd names
+quiet_for form colour states (Some name) warnings is_c files before own (Ok report) found reported same = λ good names. absurd names
 quiet_for form colour states None warnings is_c files before (Ok answer) (Ok report) found reported same =
     λ good names. same good ∙ found ∙ ap (λ lines. lines ++ []) (unread_none answer (λ two. good (reported.1 ∙ two)))
 quiet_for form colour states None warnings is_c files before (Err f) (Ok report) found reported same =
     λ good names. absurd (good reported.1.1)
-quiet_for form colour states journal warnings is_c files before said (Err e) found reported same = tt
+quiet_for form colour states journal warnings is_c files before own (Err e) found reported same = tt
 
 -- ---- of a request, and of the words that ask for it
 
@@ -185,19 +195,26 @@ spelled_anyway : (written : Text → Text → Type 0) (untouched : Type 0) (name
 spelled_anyway written untouched name (Some entries) is = is
 spelled_anyway written untouched name None is = tt
 
-written_anyway : (written : Text → Text → Type 0) (untouched : Type 0) (journal : Option Text) (answer : Answer) →
-    IsWritten written untouched journal answer → IsWritten written ⊤ journal answer
-written_anyway written untouched None answer is = tt
-written_anyway written untouched (Some name) (Explained e unread) is = spelled_anyway written untouched name (first_journal e.noted) is
-written_anyway written untouched (Some name) _ is = tt
+written_anyway : (written : Text → Text → Type 0) (untouched : Type 0) (journal : Option Text) (own : Result ExplainAnswer Failure) →
+    IfOk own (IsWritten written untouched journal) → IfOk own (IsWritten written ⊤ journal)
+written_anyway written untouched None (Ok answer) is = tt
+written_anyway written untouched (Some name) (Ok (Explained e unread)) is =
+    spelled_anyway written untouched name (first_journal e.noted) is
+written_anyway written untouched (Some name) (Ok (Pages pages)) is = tt
+written_anyway written untouched journal (Err f) is = tt
 
-changed_anyway : (written : Text → Text → Type 0) (untouched : Type 0) (answer : Answer) → AreChanged written untouched answer →
+changed_anyway : (written : Text → Text → Type 0) (untouched : Type 0) (answer : TextAnswer) → AreChanged written untouched answer →
     AreChanged written ⊤ answer
 changed_anyway written untouched (Formatted mode found) is = (is.0, λ none. tt)
 changed_anyway written untouched _ is = tt
 
+all_changed_anyway : (written : Text → Text → Type 0) (untouched : Type 0) (own : Result TextAnswer Failure) →
+    IfOk own (AreChanged written untouched) → IfOk own (AreChanged written ⊤)
+all_changed_anyway written untouched (Ok answer) is = changed_anyway written untouched answer is
+all_changed_anyway written untouched (Err f) is = tt
+
 put_anyway : (written : Text → Text → Type 0) (does : List Attempt → Type 0) (folder : Text) (texts : List Text)
-    (said : Result Answer Failure) → ArePut written does folder texts said → ArePut written any folder texts said
+    (own : Result TextAnswer Failure) → ArePut written does folder texts own → ArePut written any folder texts own
 put_anyway written does folder (text ∷ texts) (Ok (EmittedInto driver)) is = record {
   graph = is.graph;
   points = is.points;
@@ -211,13 +228,11 @@ put_anyway written does folder texts (Err f) is = λ other. tt
 
 kept_anyway : (written : Text → Text → Type 0) (does : List Attempt → Type 0) (request : Asked) (texts : List Text)
     (said : Result Answer Failure) → IsKept written does request texts said → IsKept written any request texts said
-kept_anyway written does (Explain form colour states journal warnings is_c files) texts (Ok answer) is =
-    written_anyway written (does []) journal answer is
-kept_anyway written does (Explain form colour states journal warnings is_c files) texts (Err f) is = tt
+kept_anyway written does (Explain form colour states journal warnings is_c files) texts said (own, same, is) =
+    (own, same, written_anyway written (does []) journal own is)
 kept_anyway written does (Show timeline (Some picture) journal files) texts said is = is
-kept_anyway written does (Format Write files) texts (Ok answer) is = changed_anyway written (does []) answer is
-kept_anyway written does (Format Write files) texts (Err f) is = tt
-kept_anyway written does (EmitInto folder file cert) texts said is = put_anyway written does folder texts said is
+kept_anyway written does (Format Write files) texts said (own, same, is) = (own, same, all_changed_anyway written (does []) own is)
+kept_anyway written does (EmitInto folder file cert) texts said (own, same, is) = (own, same, put_anyway written does folder texts own is)
 kept_anyway written does _ texts said is = tt
 
 answered_anyway : (shown : Bool) (gives : Giving) (written : Text → Text → Type 0) (does : List Attempt → Type 0) (request : Option Asked)

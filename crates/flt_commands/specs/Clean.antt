@@ -5,9 +5,9 @@ use Rattle.flt_tree.specs.declared.filter.Filter.{Filter}
 use Rattle.flt_model.specs.Program.{by_altitude}
 use Rattle.flt_model.specs.Runs.{breaks}
 use Rattle.flt_model.specs.Steps.{Transition}
-use Rattle.flt_commands.specs.Inputs.{Text}
+use Rattle.flt_files.specs.Inputs.{Text}
 use Rattle.flt_syntax.specs.Texts.{AreSpelled}
-use Rattle.flt_commands.specs.Split.{IsCertificateStart}
+use Rattle.flt_files.specs.Split.{IsCertificateStart}
 use Rattle.flt_words.specs.Request.{Asked, Check, Analyse, Thin, Run, Replay, Show, Explain}
 use Rattle.flt_words.specs.Request.{Extract, Format, Pages, Emit, EmitInto, Compare, Serve}
 

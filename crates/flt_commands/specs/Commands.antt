@@ -3,35 +3,36 @@
 use Rattle.std.specs.Io.KnownBytes.{Appends}
 use Rattle.std.specs.Prelude.{◌≡◌, ◌≢◌, ℕ, Bool, List, [], ◌∷◌, ◌++◌, Option, Some, None, Result}
 use Rattle.std.specs.Prelude.{Ok, Err, IfOk, OnOk, codes, drop, map, option_map, unwrap_or, ⊤}
-use Rattle.flt_commands.specs.Allowed.{options_of}
-use Rattle.flt_commands.specs.Analyse.{IsAnalysed}
-use Rattle.flt_commands.specs.Answer.{ending_of, output, remark, status_of}
-use Rattle.flt_commands.specs.Attempts.{Attempt}
-use Rattle.flt_commands.specs.Check.{IsChecked}
+use Rattle.flt_commands_explain.specs.Allowed.{options_of}
+use Rattle.flt_commands_texts.specs.Analyse.{IsAnalysed}
+use Rattle.flt_commands.specs.Answer.{IsOf, ending_of, output, remark, status_of}
+use Rattle.flt_files.specs.Attempts.{Attempt}
+use Rattle.flt_commands_texts.specs.Check.{IsChecked}
 use Rattle.flt_commands.specs.Clean.{IsClean}
-use Rattle.flt_commands.specs.Compare.{IsCompared}
-use Rattle.flt_commands.specs.Drawn.{IsDrawn}
-use Rattle.flt_commands.specs.Emit.{IsEmitted}
-use Rattle.flt_commands.specs.EmitInto.{ArePut, IsEmittedInto, remark_in}
-use Rattle.flt_commands.specs.Explain as explain
-use Rattle.flt_commands.specs.Explain.{ArePaged, IsExplained, IsWritten, look_in}
-use Rattle.flt_commands.specs.Extract.{IsExtracted}
-use Rattle.flt_commands.specs.Failure.{failure_line}
-use Rattle.flt_commands.specs.Format.{AreChanged, IsFormatSaid, remarks_in}
-use Rattle.flt_commands.specs.Inputs.{Giving, IsUnread, Says, Text, gives_but}
-use Rattle.flt_commands.specs.Names.{names_of}
-use Rattle.flt_commands.specs.Remarks.{IsFound}
-use Rattle.flt_commands.specs.Replay.{IsReplayed, IsShown}
-use Rattle.flt_commands.specs.Running.{IsRan}
-use Rattle.flt_commands.specs.Thin.{IsThinned}
-use Rattle.flt_model.specs.JournalText.{Entries, spelling}
+use Rattle.flt_commands_texts.specs.Compare.{IsCompared}
+use Rattle.flt_commands_runs.specs.Drawn.{IsDrawn}
+use Rattle.flt_commands_texts.specs.Emit.{IsEmitted}
+use Rattle.flt_commands_texts.specs.EmitInto.{ArePut, IsEmittedInto, remark_in}
+use Rattle.flt_commands_explain.specs.Explain as explain
+use Rattle.flt_commands_explain.specs.Explain.{ArePaged, IsExplained, IsWritten, look_in}
+use Rattle.flt_commands_texts.specs.Extract.{IsExtracted}
+use Rattle.flt_commands.specs.FailureLine.{failure_line}
+use Rattle.flt_commands_texts.specs.LayoutRemarks.{remarks_in}
+use Rattle.flt_commands_texts.specs.Format.{AreChanged, IsFormatSaid}
+use Rattle.flt_files.specs.Inputs.{Giving, IsUnread, Says, Text, gives_but}
+use Rattle.flt_files.specs.Names.{names_of}
+use Rattle.flt_commands_explain.specs.Remarks.{IsFound}
+use Rattle.flt_commands_runs.specs.Replay.{IsKeptAs, IsReplayed, IsShown}
+use Rattle.flt_commands_runs.specs.Running.{IsRan}
+use Rattle.flt_commands_texts.specs.Thin.{IsThinned}
 use Rattle.flt_words.specs.Request.{Asked, Check, Analyse, Thin, Run, Replay, Show, Explain}
 use Rattle.flt_words.specs.Request.{Extract, Format, Pages, Emit, EmitInto, Compare, Serve}
 use Rattle.flt_words.specs.Words.{asked}
 use Rattle.flt_words.specs.declared.request.FormatMode.TheVariants.{Write}
 use Rattle.flt_commands.specs.declared.answer.Answer.{Answer}
-use Rattle.flt_commands.specs.declared.failure.Failure.{Failure}
-use Rattle.flt_commands.specs.declared.failure.Failure.TheVariants.{OutOfMemory}
+use Rattle.flt_commands.specs.declared.answer.Answer.TheVariants.{OfText, OfRun, OfExplain}
+use Rattle.flt_files.specs.declared.failure.Failure.{Failure}
+use Rattle.flt_files.specs.declared.failure.Failure.TheVariants.{OutOfMemory}
 use Rattle.flt_commands.specs.declared.report.Report.{Report}
 
 -- ---- what is said
@@ -58,22 +59,25 @@ IsUnserved (Err f) = IsUnread (codes "-") f
 -- annotations; `explain` alone says something of some of them where others can't be read, with colours where the words ask for them or a
 -- terminal shows them
 abbrev pub IsSaid : Bool → Giving → Asked → List (Option Text) → List Text → Result Answer Failure → Type 0
-IsSaid shown gives (Check file cert) codes = Says gives (names_of (Check file cert)) IsChecked
-IsSaid shown gives (Analyse file) codes = Says gives (names_of (Analyse file)) IsAnalysed
-IsSaid shown gives (Thin file cert) codes = Says gives (names_of (Thin file cert)) IsThinned
-IsSaid shown gives (Run workers quiet script files) codes = Says gives (names_of (Run workers quiet script files)) IsRan
-IsSaid shown gives (Replay journal files) codes = Says gives (names_of (Replay journal files)) IsReplayed
-IsSaid shown gives (Show timeline picture journal files) codes =
-    Says gives (names_of (Show timeline picture journal files)) (IsShown timeline picture)
-IsSaid shown gives (Explain form colour states journal warnings is_c files) codes =
-    IsExplained gives is_c form (look_in colour shown states warnings) warnings.allowed journal files codes
-IsSaid shown gives (Extract of_map files) codes = Says gives (names_of (Extract of_map files)) (IsExtracted of_map files)
-IsSaid shown gives (Format mode files) codes = IsFormatSaid gives mode files
-IsSaid shown gives (Pages names) codes = Says gives (names_of (Pages names)) (λ texts. ArePaged names)
-IsSaid shown gives (Emit part file cert) codes = Says gives (names_of (Emit part file cert)) (IsEmitted part)
-IsSaid shown gives (EmitInto folder file cert) codes = Says gives (names_of (EmitInto folder file cert)) (IsEmittedInto folder)
-IsSaid shown gives (Compare files) codes = Says gives (names_of (Compare files)) (IsCompared files)
-IsSaid shown gives Serve codes = λ texts. IsUnserved
+IsSaid shown gives (Check file cert) codes texts = IsOf OfText (Says gives (names_of (Check file cert)) IsChecked texts)
+IsSaid shown gives (Analyse file) codes texts = IsOf OfText (Says gives (names_of (Analyse file)) IsAnalysed texts)
+IsSaid shown gives (Thin file cert) codes texts = IsOf OfText (Says gives (names_of (Thin file cert)) IsThinned texts)
+IsSaid shown gives (Run workers quiet script files) codes texts =
+    IsOf OfRun (Says gives (names_of (Run workers quiet script files)) IsRan texts)
+IsSaid shown gives (Replay journal files) codes texts = IsOf OfRun (Says gives (names_of (Replay journal files)) IsReplayed texts)
+IsSaid shown gives (Show timeline picture journal files) codes texts =
+    IsOf OfRun (Says gives (names_of (Show timeline picture journal files)) (IsShown timeline picture) texts)
+IsSaid shown gives (Explain form colour states journal warnings is_c files) codes texts =
+    IsOf OfExplain (IsExplained gives is_c form (look_in colour shown states warnings) warnings.allowed journal files codes texts)
+IsSaid shown gives (Extract of_map files) codes texts =
+    IsOf OfText (Says gives (names_of (Extract of_map files)) (IsExtracted of_map files) texts)
+IsSaid shown gives (Format mode files) codes texts = IsOf OfText (IsFormatSaid gives mode files texts)
+IsSaid shown gives (Pages names) codes texts = IsOf OfExplain (Says gives (names_of (Pages names)) (λ read. ArePaged names) texts)
+IsSaid shown gives (Emit part file cert) codes texts = IsOf OfText (Says gives (names_of (Emit part file cert)) (IsEmitted part) texts)
+IsSaid shown gives (EmitInto folder file cert) codes texts =
+    IsOf OfText (Says gives (names_of (EmitInto folder file cert)) (IsEmittedInto folder) texts)
+IsSaid shown gives (Compare files) codes texts = IsOf OfText (Says gives (names_of (Compare files)) (IsCompared files) texts)
+IsSaid shown gives Serve codes texts = IsUnserved
 
 -- ---- how that is printed
 
@@ -95,10 +99,10 @@ IsRemarkedAfter before (Err f) bytes = bytes ≡ before ++ (failure_line f ++ 10
 -- what may stand before it: which files of `explain` and `format` aren't read; why a file isn't written or has no layout; that no run
 -- is found; and which files of a driver are as they were or aren't written
 abbrev pub IsBefore : Asked → Result Answer Failure → List ℕ → Type 0
-IsBefore (Explain form colour states journal warnings is_c files) said bytes = IsFound journal said bytes
+IsBefore (Explain form colour states journal warnings is_c files) said bytes = IsOf OfExplain (λ own. IsFound journal own bytes) said
 IsBefore (Show timeline picture journal files) said bytes = OnOk said (bytes ≡ [])
-IsBefore (Format mode files) said bytes = IfOk said (λ answer. bytes ≡ remarks_in answer)
-IsBefore (EmitInto folder file cert) said bytes = bytes ≡ remark_in said
+IsBefore (Format mode files) said bytes = IsOf OfText (λ own. IfOk own (λ answer. bytes ≡ remarks_in answer)) said
+IsBefore (EmitInto folder file cert) said bytes = IsOf OfText (λ own. bytes ≡ remark_in own) said
 IsBefore request said bytes = bytes ≡ []
 
 -- all that stands on the standard error
@@ -140,12 +144,6 @@ abbrev pub HasCodes : Asked → Report → Type 0
 HasCodes (Explain form colour states journal warnings is_c files) report = Unit {0}
 HasCodes request report = report.codes.items ≡ []
 
--- where there is an answer about a journal, its entries are kept, whose spelling its bytes are
-abbrev pub IsKeptAs : Option Entries → Text → Result Answer Failure → Type 0
-IsKeptAs (Some entries) bytes (Ok answer) = bytes ≡ spelling entries
-IsKeptAs None bytes (Ok answer) = ⊥
-IsKeptAs kept bytes (Err f) = kept ≡ None
-
 -- what the names give is what the report has: the texts, and first the journal, where one was read
 abbrev pub AreThose : Asked → Report → List Text → Result Answer Failure → Type 0
 AreThose (Replay journal files) report texts said =
@@ -158,10 +156,12 @@ AreThose request report texts said = texts ≡ texts_in report
 -- there; where layouts are written, each goes into its file; a driver's parts go into its folder; where no file is named for a picture or a
 -- journal, and no layout and no driver is written, nothing is done, and all that is written stays as it was
 abbrev pub IsKept : (Text → Text → Type 0) → (List Attempt → Type 0) → Asked → List Text → Result Answer Failure → Type 0
-IsKept written does (Explain form colour states journal warnings is_c files) texts said = IfOk said (IsWritten written (does []) journal)
-IsKept written does (Show timeline (Some picture) journal files) texts said = IfOk said (IsDrawn written picture (drop 1 texts))
-IsKept written does (Format Write files) texts said = IfOk said (AreChanged written (does []))
-IsKept written does (EmitInto folder file cert) texts said = ArePut written does folder texts said
+IsKept written does (Explain form colour states journal warnings is_c files) texts said =
+    IsOf OfExplain (λ own. IfOk own (IsWritten written (does []) journal)) said
+IsKept written does (Show timeline (Some picture) journal files) texts said =
+    IsOf OfRun (λ own. IfOk own (IsDrawn written picture (drop 1 texts))) said
+IsKept written does (Format Write files) texts said = IsOf OfText (λ own. IfOk own (AreChanged written (does []))) said
+IsKept written does (EmitInto folder file cert) texts said = IsOf OfText (ArePut written does folder texts) said
 IsKept written does request texts said = does []
 
 -- the report on what is asked for. All of it speaks of the same texts, which are the report's, and of its C files:

@@ -2,11 +2,11 @@
 use Rattle.std.specs.Prelude.{◌≡◌, ◌≢◌, ℕ, List, Option, Some, None, Result, Ok, Err}
 use Rattle.flt_words.specs.Request.{Asked, Run, Show, Explain, Format, Pages, Emit, EmitInto}
 use Rattle.flt_words.specs.declared.request.FormatMode.TheVariants.{Write}
-use Rattle.flt_commands.specs.Answer.{output, status_of}
-use Rattle.flt_commands.specs.Inputs.{Giving, Text}
+use Rattle.flt_commands.specs.Answer.{answered, output, status_of}
+use Rattle.flt_files.specs.Inputs.{Giving, Text}
 use Rattle.flt_commands.specs.declared.answer.Answer.{Answer}
-use Rattle.flt_commands.specs.declared.failure.Failure.{Failure}
-use Rattle.flt_commands.specs.declared.failure.Failure.TheVariants.{CannotRead, Flawed, OutOfMemory}
+use Rattle.flt_files.specs.declared.failure.Failure.{Failure}
+use Rattle.flt_files.specs.declared.failure.Failure.TheVariants.{CannotRead, Flawed, OutOfMemory}
 
 -- for each name one thing is given at most: its bytes, or none
 abbrev pub GivesOne : Giving → Type 0
@@ -47,6 +47,7 @@ abbrev pub AskForOne : Option Asked → Type 0
 AskForOne None = Unit {0}
 AskForOne (Some request) = HasOneAnswer request
 
--- of some bytes one thing is said at most
-abbrev pub SaysOne : (List Text → Result Answer Failure → Type 0) → Type 0
-SaysOne IsSaidOf = (texts : List Text) (a b : Result Answer Failure) → IsSaidOf texts a → IsSaidOf texts b → AreSame a b
+-- of some bytes commands of one kind say one thing at most
+abbrev pub SaysOne : {A : Type 0} → (A → Answer) → (List Text → Result A Failure → Type 0) → Type 0
+SaysOne {A} kind IsSaidOf =
+    (texts : List Text) (a b : Result A Failure) → IsSaidOf texts a → IsSaidOf texts b → AreSame (answered kind a) (answered kind b)

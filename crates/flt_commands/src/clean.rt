@@ -2,10 +2,10 @@
 
 ghost use Rattle.flt_cert.specs.declared.cert.Cert.{Cert};
 ghost use Rattle.flt_check.specs.Accepting.{CertCovers};
-ghost use Rattle.flt_commands.specs.Check.{HasPoints};
+ghost use Rattle.flt_commands_texts.specs.Check.{HasPoints};
 ghost use Rattle.std.specs.Prelude.{List};
 ghost use Rattle.flt_commands.specs.Clean.{BreaksNothing, BreakNothing};
-ghost use Rattle.flt_commands.specs.Inputs.{Text};
+ghost use Rattle.flt_files.specs.Inputs.{Text};
 ghost use Rattle.flt_stack_crew.specs.Running.{IsRun};
 ghost use Rattle.flt_stack_crew.specs.declared.running.Ran.{Ran};
 ghost use Rattle.flt_graph.specs.declared.graph.Graph.{Graph};

@@ -2,35 +2,24 @@
 
 ghost use Rattle.std.specs.Io.KnownBytes.{Appends};
 ghost use Rattle.std.specs.Prelude.{◌≡◌, ◌≢◌, ◌⊎◌, [], OnOk, IfOk, IfErr, drop, map, option_map, string_bytes, take, unwrap_or};
-ghost use Rattle.flt_commands.specs.Attempts.{Does};
+ghost use Rattle.flt_files.specs.Attempts.{Does};
 ghost use Rattle.flt_commands.specs.Commands as spec;
-ghost use Rattle.flt_commands.specs.Explain.{is_coloured as is_coloured_as};
+ghost use Rattle.flt_commands_explain.specs.Explain.{is_coloured as is_coloured_as};
 ghost use Rattle.flt_words.specs.Words.{asked};
 
-use crate::allowed::options_of;
-use crate::analyse::analyse_file;
-use crate::answer::Answer;
-use crate::check::check_files;
+use crate::answer::{Answer, of_explain, of_run, of_text};
 use crate::clean::{covered_texts_break_nothing, driven_texts_break_nothing};
-use crate::compare::compare_files;
-use crate::deadlock::tell_deadlock;
-use crate::emit::emit_files;
-use crate::emit_into::{emit_files_into, into_remark};
-use crate::explain::{ExplainOptions, pages_of};
 use crate::explained::report_on_files;
-use crate::extract::extract_files;
-use crate::failure::Failure;
-use crate::fault::CommandFault;
-use crate::format::report_on_layouts;
-use crate::inputs::{Inputs, Pictures};
-use crate::remarks::show_remark;
-use crate::replay::replay_files;
-use crate::report::{Contents, Report, report_on};
-use crate::running::run_files;
+use crate::layouts::report_on_layouts;
+use crate::report::{Report, report_on};
 use crate::search::{Search, WatchSearch};
-use crate::showing::show_files;
-use crate::texts::Texts;
-use crate::thin::thin_files;
+use flt_commands_explain::{CommandFault, ExplainOptions, options_of, pages_of};
+use flt_commands_runs::{replay_files, run_files, show_files, show_remark, tell_deadlock};
+use flt_commands_texts::{
+    analyse_file, check_files, compare_files, emit_files, emit_files_into, extract_files,
+    into_remark, thin_files,
+};
+use flt_files::{Contents, Failure, Inputs, Pictures, Texts};
 use flt_model::{Sink, put_all};
 use flt_stack_crew::{NoWatch, Watch};
 use flt_syntax::fails_exactly_where_nothing_is_spelled;
@@ -68,7 +57,7 @@ fn unserved() -> Result<Answer, Failure<'static>>
 }
 
 /// The report on a program's words, without its own name. A part of the output of `explain` may be written already.
-#[tactic(auto, using(crate::proofs::Sent::cut_short_for, crate::proofs::Sent::none_sent))]
+#[tactic(auto, using(crate::proofs::SentFor::cut_short_for, flt_commands_explain::proofs::Sent::none_sent))]
 fn report_of<'a, R: Threads + Wait + Sync, I: Inputs, P: Pictures, O: Sink, W: Watch + WatchSearch>(
     rt: &R,
     alloc: Global,
@@ -99,17 +88,17 @@ fn report_of<'a, R: Threads + Wait + Sync, I: Inputs, P: Pictures, O: Sink, W: W
         Request::Check { file, cert } => {
             let whole = Some(last_of(file, cert));
             let said = check_files(alloc, &Texts { inputs, whole }, file, cert, &mut contents);
-            report_on(alloc, Vec::new(alloc), said, contents)
+            report_on(alloc, Vec::new(alloc), of_text(said), contents)
         }
         Request::Analyse { file } => {
             let whole = None;
             let said = analyse_file(alloc, &Texts { inputs, whole }, file, &mut contents);
-            report_on(alloc, Vec::new(alloc), said, contents)
+            report_on(alloc, Vec::new(alloc), of_text(said), contents)
         }
         Request::Thin { file, cert } => {
             let whole = Some(last_of(file, cert));
             let said = thin_files(alloc, &Texts { inputs, whole }, file, cert, &mut contents);
-            report_on(alloc, Vec::new(alloc), said, contents)
+            report_on(alloc, Vec::new(alloc), of_text(said), contents)
         }
         Request::Run {
             workers,
@@ -129,7 +118,7 @@ fn report_of<'a, R: Threads + Wait + Sync, I: Inputs, P: Pictures, O: Sink, W: W
                 &mut NoWatch,
                 &mut contents,
             );
-            report_on(alloc, Vec::new(alloc), said, contents)
+            report_on(alloc, Vec::new(alloc), of_run(said), contents)
         }
         Request::Run {
             workers,
@@ -149,14 +138,14 @@ fn report_of<'a, R: Threads + Wait + Sync, I: Inputs, P: Pictures, O: Sink, W: W
                 &mut contents,
             );
             tell_deadlock(alloc, &said, &contents, watch)?;
-            report_on(alloc, Vec::new(alloc), said, contents)
+            report_on(alloc, Vec::new(alloc), of_run(said), contents)
         }
         Request::Replay { journal, files } => {
             let files = files.as_slice();
             let whole = Some(journal);
             let inputs = Texts { inputs, whole };
             let said = replay_files(alloc, &inputs, journal, files, &mut contents);
-            report_on(alloc, Vec::new(alloc), said, contents)
+            report_on(alloc, Vec::new(alloc), of_run(said), contents)
         }
         Request::Show {
             timeline,
@@ -177,7 +166,7 @@ fn report_of<'a, R: Threads + Wait + Sync, I: Inputs, P: Pictures, O: Sink, W: W
                 &mut contents,
             );
             let before = show_remark(alloc, &said)?;
-            report_on(alloc, before, said, contents)
+            report_on(alloc, before, of_run(said), contents)
         }
         Request::Explain {
             form,
@@ -206,7 +195,7 @@ fn report_of<'a, R: Threads + Wait + Sync, I: Inputs, P: Pictures, O: Sink, W: W
         }
         Request::Extract { map, files } => {
             let said = extract_files(alloc, inputs, map, files.as_slice(), &mut contents);
-            report_on(alloc, Vec::new(alloc), said, contents)
+            report_on(alloc, Vec::new(alloc), of_text(said), contents)
         }
         Request::Format { mode, files } => {
             let files = files.as_slice();
@@ -214,7 +203,7 @@ fn report_of<'a, R: Threads + Wait + Sync, I: Inputs, P: Pictures, O: Sink, W: W
         }
         Request::Pages { names } => {
             let said = pages_of(alloc, names.as_slice());
-            report_on(alloc, Vec::new(alloc), said, contents)
+            report_on(alloc, Vec::new(alloc), of_explain(said), contents)
         }
         Request::Emit { part, file, cert } => {
             let whole = cert;
@@ -226,7 +215,7 @@ fn report_of<'a, R: Threads + Wait + Sync, I: Inputs, P: Pictures, O: Sink, W: W
                 cert,
                 &mut contents,
             );
-            report_on(alloc, Vec::new(alloc), said, contents)
+            report_on(alloc, Vec::new(alloc), of_text(said), contents)
         }
         Request::EmitInto { folder, file, cert } => {
             let said = emit_files_into(
@@ -242,11 +231,11 @@ fn report_of<'a, R: Threads + Wait + Sync, I: Inputs, P: Pictures, O: Sink, W: W
                 &mut contents,
             );
             let before = into_remark(alloc, &said)?;
-            report_on(alloc, before, said, contents)
+            report_on(alloc, before, of_text(said), contents)
         }
         Request::Compare { files } => {
             let said = compare_files(alloc, inputs, files.as_slice(), &mut contents);
-            report_on(alloc, Vec::new(alloc), said, contents)
+            report_on(alloc, Vec::new(alloc), of_text(said), contents)
         }
         Request::Serve => { report_on(alloc, Vec::new(alloc), unserved(), contents) }
     }
@@ -287,7 +276,7 @@ fn write_report<O: Sink, E: Sink>(
 ///
 /// `OutOfMemory` if a growth is refused: nothing is written then, except the output of `explain` for the first files. `Write` if a write
 /// fails.
-#[tactic(auto, using(crate::proofs::Sent::rest_sent))]
+#[tactic(auto, using(crate::proofs::SentFor::rest_sent))]
 pub fn command<
     'a,
     R: Threads + Wait + Sync,

@@ -2,20 +2,18 @@
 
 ghost use Rattle.std.specs.Io.KnownBytes.{Appends};
 ghost use Rattle.std.specs.Prelude.{◌≡◌, ◌≢◌, [], Bool, IfErr, IfOk, OnOk, Some, map, option_map, take};
-ghost use Rattle.flt_commands.specs.Allowed.{options_of};
-ghost use Rattle.flt_commands.specs.Attempts.{Does};
+ghost use Rattle.flt_commands_explain.specs.Allowed.{options_of};
+ghost use Rattle.flt_files.specs.Attempts.{Does};
 ghost use Rattle.flt_commands.specs.Commands.{IsAnswered, NamesNoJournal};
-ghost use Rattle.flt_commands.specs.Explain as spec;
+ghost use Rattle.flt_commands_explain.specs.Explain as spec;
 ghost use Rattle.flt_words.specs.Request.{Choice, Explain};
 ghost use Rattle.flt_words.specs.declared.request.Colour.{Colour};
 
 use crate::clean::{covered_texts_break_nothing, driven_texts_break_nothing};
-use crate::explain::{ExplainOptions, explain_files};
-use crate::fault::CommandFault;
-use crate::inputs::{Inputs, Pictures};
-use crate::remarks::explain_remark;
-use crate::report::{Contents, Report, report_on_explanation};
+use crate::report::{Report, report_on_explanation};
+use flt_commands_explain::{CommandFault, ExplainOptions, explain_files, explain_remark};
 use flt_explain_runs::SearchWatch;
+use flt_files::{Contents, Inputs, Pictures};
 use flt_model::Sink;
 use flt_syntax::fails_exactly_where_nothing_is_spelled;
 use std::alloc::Global;

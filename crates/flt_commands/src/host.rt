@@ -1,257 +1,27 @@
-//! The system that the program runs on: its files, its streams, and the program's own words.
+//! The program on its system: its streams, and its own words.
 
-ghost use Rattle.std.specs.Prelude.{◌≡◌, IfNone, IfOk, IfSome, map, string_bytes};
+ghost use Rattle.std.specs.Prelude.{◌≡◌, IfNone, IfSome, map, string_bytes};
 ghost use Rattle.flt_commands.specs.Commands.{AnswersSomehow};
-ghost use Rattle.flt_commands.specs.Served.{ServesSomehow};
-ghost use Rattle.flt_commands.specs.System.{given_by_host, written_by_host};
+ghost use Rattle.flt_commands_explain.specs.Served.{ServesSomehow};
+ghost use Rattle.flt_files.specs.System.{given_by_host, written_by_host};
 ghost use Rattle.flt_words.specs.Words.{AskToServe};
 
 use crate::commands::command;
-use crate::fault::CommandFault;
 use crate::folders::with_folders;
-use crate::inputs::is_standard;
-use crate::named::SystemFiles;
 use crate::report::Report;
 use crate::search::WatchSearch;
-use crate::serving::serve_client;
-use crate::system::{Place, Reader, System};
-use crate::unread::InputFault;
-use crate::unwritten::OutputFault;
+use flt_commands_explain::{CommandFault, serve_client};
+use flt_files::{CountedReader, HostSystem, Reader, SystemFiles};
 use flt_model::{ReadFault, Writing};
 use flt_server_frames::{Incoming, ServeFault};
 use flt_stack_crew::Watch;
 use flt_words::ask_to_serve;
 use std::alloc::AllocError;
-use std::cell::Cell;
 use std::env::{self, VarError};
-use std::fs::{self, File, Metadata, OpenOptions};
 use std::io;
-use std::io::{IsTerminal, Read, Stdin, Stdout, Write};
-use std::os::unix::fs::MetadataExt;
+use std::io::{IsTerminal, Stdin, Stdout, Write};
 use std::sync::Wait;
 use std::thread::Threads;
-
-/// A file or a stream of the system that is read, with a count of its failures and the reason of the last one.
-#[derive(Drop)]
-struct CountedReader<R: Read + Drop> {
-    inner: R,
-    failures: u64,
-    fault: Option<io::Error>,
-}
-
-impl<R: Read + Drop> CountedReader<R> {
-    /// A reader without failures.
-    fn new(inner: R) -> CountedReader<R>
-        ensures inner { result.inner ≡ inner }
-        ensures fine { result.failures ≡ 0 }
-    {
-        CountedReader {
-            inner,
-            failures: 0,
-            fault: None,
-        }
-    }
-}
-
-impl<R: Read + Drop> Reader for CountedReader<R> {
-    ghost left = { λ r. R.remaining r.inner };
-
-    ghost failures = { λ r. r.failures };
-
-    fn take(&mut self, buffer: &mut [u8]) -> Result<usize, ReadFault> {
-        match self.inner.read(buffer) {
-            Ok(n) => Ok(n),
-            Err(fault) => {
-                self.fault = Some(fault);
-                self.failures = self.failures.wrapping_add(1);
-                Err(ReadFault)
-            }
-        }
-    }
-
-    fn why(&self) -> Option<InputFault> {
-        match &self.fault {
-            Some(fault) => Some(InputFault::of(fault)),
-            None => None,
-        }
-    }
-}
-
-impl<R: Read + Drop> Incoming for CountedReader<R> {
-    ghost left = { λ r. R.remaining r.inner };
-
-    ghost failures = { λ r. r.failures };
-
-    fn take(&mut self, buffer: &mut [u8]) -> Result<usize, ReadFault> {
-        Reader::take(self, buffer)
-    }
-}
-
-/// The system that the program runs on: its files by their paths, and the standard input.
-#[derive(Drop)]
-struct Host<'a> {
-    rt: &'a HostRuntime,
-    /// Why the last file couldn't be opened, if it couldn't.
-    fault: Cell<Option<io::Error>>,
-}
-
-impl System for Host<'_> {
-    type File = CountedReader<File>;
-
-    type Input = CountedReader<Stdin>;
-
-    type Made = File;
-
-    ghost use Rattle.std.specs.Prelude.{⊤};
-    ghost use Rattle.flt_commands.specs.System.{Unknown, Unsaid, Unseen};
-
-    // Nothing is known of what its files hold, of which there are, and of when a read fails.
-    ghost holds = { λ _. Unknown };
-
-    ghost lacks = { λ _. Unsaid };
-
-    ghost has = { λ _. Unsaid };
-
-    ghost fails = { λ _. ⊤ };
-
-    ghost makes = { λ _. Unknown };
-
-    ghost puts = { λ _. Unseen };
-
-    fn open(&self, name: &str) -> Option<CountedReader<File>> {
-        match fs::open(self.rt, name) {
-            Ok(file) => {
-                self.fault.set(None);
-                Some(CountedReader::new(file))
-            }
-            Err(fault) => {
-                self.fault.set(Some(fault));
-                None
-            }
-        }
-    }
-
-    fn input(&self) -> CountedReader<Stdin> {
-        self.fault.set(None);
-        CountedReader::new(self.rt.stdin())
-    }
-
-    fn place(&self, name: &str, inputs: &[&str]) -> Result<Place, OutputFault> {
-        match fs::symlink_metadata(self.rt, name) {
-            Ok(found) if found.is_symlink() => self.place_led_to(name),
-            Ok(found) if found.is_dir() => Err(OutputFault::Folder),
-            Ok(found) if !found.is_file() => Ok(Place::Stream),
-            Ok(found) if self.is_among(&found, inputs) => Err(OutputFault::Input),
-            Ok(_) => self.place_of_file(name),
-            Err(fault) if fault.kind() == io::ErrorKind::NotFound => Ok(Place::File),
-            Err(fault) => Err(OutputFault::Refused(fault)),
-        }
-    }
-
-    fn stream(&self, name: &str) -> Result<File, OutputFault> {
-        self.open_to_write(name)
-    }
-
-    fn create(&self, name: &str) -> Result<Option<File>, OutputFault> {
-        match OpenOptions::new()
-            .write(true)
-            .create_new(true)
-            .open(self.rt, name)
-        {
-            Ok(file) => Ok(Some(file)),
-            Err(fault) if fault.kind() == io::ErrorKind::AlreadyExists => Ok(None),
-            Err(fault) => Err(OutputFault::Refused(fault)),
-        }
-    }
-
-    fn put(&self, file: File, made: &str, name: &str) -> Result<(), OutputFault> {
-        match self.try_put(&file, made, name) {
-            Ok(()) => Ok(()),
-            Err(fault) => Err(OutputFault::Refused(fault)),
-        }
-    }
-
-    fn discard(&self, made: &str) {
-        let _ = fs::remove_file(self.rt, made);
-    }
-
-    fn why(&self, name: &str) -> InputFault {
-        match self.fault.get() {
-            Some(fault) => InputFault::of(&fault),
-            None => self.why_long(name),
-        }
-    }
-}
-
-impl Host<'_> {
-    /// Why the file of a name isn't read, of which no call failed.
-    fn why_long(&self, name: &str) -> InputFault {
-        match fs::metadata(self.rt, path_of(name)) {
-            Ok(found) if found.is_file() => InputFault::TooLong,
-            _ => InputFault::Endless,
-        }
-    }
-
-    /// The place to which a symbolic link leads, if that isn't a file or a folder. A process names its own streams by such links.
-    fn place_led_to(&self, name: &str) -> Result<Place, OutputFault> {
-        match fs::metadata(self.rt, name) {
-            Ok(found) if !found.is_file() && !found.is_dir() => Ok(Place::Stream),
-            _ => Err(OutputFault::Link),
-        }
-    }
-
-    /// The place of a regular file, if it may be written.
-    fn place_of_file(&self, name: &str) -> Result<Place, OutputFault> {
-        self.open_to_write(name)?;
-        Ok(Place::File)
-    }
-
-    /// The file of a name, opened for writing as it is.
-    fn open_to_write(&self, name: &str) -> Result<File, OutputFault> {
-        match OpenOptions::new().write(true).open(self.rt, name) {
-            Ok(file) => Ok(file),
-            Err(fault) => Err(OutputFault::Refused(fault)),
-        }
-    }
-
-    /// Whether a file is one of those of these names.
-    fn is_among(&self, found: &Metadata, names: &[&str]) -> bool {
-        for name in names {
-            if self.is_of(found, name) {
-                return true;
-            }
-        }
-        false
-    }
-
-    /// Whether a file is that of a name, or that of the standard input.
-    fn is_of(&self, found: &Metadata, name: &str) -> bool {
-        match fs::metadata(self.rt, path_of(name)) {
-            Ok(other) => found.dev() == other.dev() && found.ino() == other.ino(),
-            Err(_) => false,
-        }
-    }
-
-    /// Puts a file that was made under one name in the place of another, with the rights of the file that was there.
-    fn try_put(&self, file: &File, made: &str, name: &str) -> io::Result<()> {
-        if let Ok(found) = fs::symlink_metadata(self.rt, name) {
-            if found.is_file() {
-                file.set_permissions(found.permissions())?;
-            }
-        }
-        file.sync_all()?;
-        fs::rename(self.rt, made, name)
-    }
-}
-
-/// The path of an input. The standard input is a file by this one.
-fn path_of(name: &str) -> &str {
-    if is_standard(name) {
-        "/dev/stdin"
-    } else {
-        name
-    }
-}
 
 /// The number of lines of a script after which a terminal shows how far the run has come.
 const LINES_A_LOOK: u64 = 1_000;
@@ -287,6 +57,22 @@ impl WatchSearch for Progress<'_> {
         if self.is_shown && states % STATES_A_LOOK == 0 {
             let _ = eprintln!(self.rt; "{states} of {most} states");
         }
+    }
+}
+
+/// A reader as the input of a server.
+#[derive(Drop)]
+struct ServerInput<R: Reader + Drop> {
+    reader: R,
+}
+
+impl<R: Reader + Drop> Incoming for ServerInput<R> {
+    ghost left = { λ s. R.left s.reader };
+
+    ghost failures = { λ s. R.failures s.reader };
+
+    fn take(&mut self, buffer: &mut [u8]) -> Result<usize, ReadFault> {
+        self.reader.take(buffer)
     }
 }
 
@@ -429,8 +215,7 @@ fn execute<R: Threads + Wait + Sync>(
 ) -> Option<Report>
     ensures { IfSome result (AnswersSomehow given_by_host written_by_host (map string_bytes words.now)) }
 {
-    let fault = Cell::new(None);
-    let host = Host { rt, fault };
+    let host = HostSystem::new(rt);
     let mut watch = Progress {
         rt,
         is_shown: rt.stderr().is_terminal(),
@@ -469,13 +254,13 @@ fn execute<R: Threads + Wait + Sync>(
 fn say_unserved(
     rt: &HostRuntime,
     fault: ServeFault,
-    input: &CountedReader<Stdin>,
+    input: &ServerInput<CountedReader<Stdin>>,
     out: &CheckedWriter<Stdout>,
 ) {
     match fault {
         ServeFault::OutOfMemory => say_out_of_memory(rt),
         ServeFault::Read => {
-            if let Some(why) = &input.fault {
+            if let Some(why) = input.reader.fault() {
                 let _ = eprintln!(rt; "error: cannot read: {why}");
             }
         }
@@ -488,7 +273,8 @@ fn say_unserved(
 fn serve_streams(rt: &HostRuntime) -> Option<u8>
     ensures { IfSome result ServesSomehow }
 {
-    let mut input = CountedReader::new(rt.stdin());
+    let reader = CountedReader::new(rt.stdin());
+    let mut input = ServerInput { reader };
     let mut out = Writing::new(CheckedWriter::new(rt.stdout()));
     match serve_client(rt.alloc(), &mut input, &mut out) {
         Ok(status) => Some(status),

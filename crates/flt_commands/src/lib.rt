@@ -1,65 +1,24 @@
-//! The commands of `fltstack`, over inputs and writers of any kind, and over the files and streams of the system.
+//! The commands of `fltstack`, over inputs and writers of any kind, and over the files and streams of the system: from the words of a command
+//! line to the printed report.
 #![tactic(auto)]
 
-mod after;
-mod allowed;
-mod analyse;
-mod annotated;
 mod answer;
-mod check;
 mod clean;
 mod commands;
-mod compare;
-mod deadlock;
-mod drifts;
-mod driver;
-mod emit;
-mod emit_into;
-mod explain;
 mod explained;
-mod extract;
-mod failure;
-mod fault;
-mod finding_runs;
+mod failure_line;
 mod folders;
-mod format;
 mod host;
-mod html;
-mod in_turn;
-mod inputs;
-mod kept;
-mod named;
-mod outcomes;
-mod pieces;
-mod remarks;
-mod replay;
+mod layouts;
 mod report;
-mod running;
 mod search;
-mod serving;
-mod showing;
 mod single;
-mod sources;
-mod split;
-mod system;
-mod texts;
-mod thin;
-mod unread;
-mod unwritten;
 
 pub use commands::command;
-pub use fault::CommandFault;
+pub use flt_commands_explain::{CommandFault, serve_client};
 pub use flt_server_frames::{Incoming, ServeFault};
 pub use flt_stack_crew::{NoWatch, Watch};
 pub use host::{Execution, run};
-pub use inputs::{Inputs, MAX_INPUT, Pictures, read_pieces_within, read_text_within, read_within};
-pub use kept::kept_texts_are_told_as_whole;
-pub use named::SystemFiles;
-pub use pieces::Pieces;
 pub use report::Report;
 pub use search::WatchSearch;
-pub use serving::serve_client;
 pub use single::one_answer_at_most;
-pub use system::{Place, Reader, System};
-pub use unread::InputFault;
-pub use unwritten::OutputFault;

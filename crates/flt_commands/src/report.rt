@@ -1,17 +1,18 @@
 //! The report on a command, before it is written.
 
 ghost use Rattle.std.specs.Prelude.{◌≡◌, ◌≢◌, ◌++◌, ◌∷◌, [], None, IfErr, IfOk, IsErr, drop};
-ghost use Rattle.flt_commands.specs.Answer.{ending_of, output, remark, sent_in, status_of, told_status};
+ghost use Rattle.flt_commands.specs.Answer.{ending_of, of_explain, output, remark, status_of};
 ghost use Rattle.flt_commands.specs.Commands as spec;
-ghost use Rattle.flt_commands.specs.Explain.{said_of};
-ghost use Rattle.flt_commands.specs.Failure.{failure_line};
+ghost use Rattle.flt_commands_explain.specs.Answer.{sent_in};
+ghost use Rattle.flt_commands_explain.specs.Explain.{said_of};
+ghost use Rattle.flt_files.specs.Unread.{status_beside};
+ghost use Rattle.flt_commands.specs.FailureLine.{failure_line};
 
-use crate::answer::{Answer, told_status};
-use crate::explain::Explanation;
-use crate::failure::Failure;
-use crate::fault::CommandFault;
-use flt_explain_forms::UnreadFile;
+use crate::answer::Answer;
+use crate::failure_line::failure_line;
+use flt_commands_explain::{CommandFault, Explanation};
 use flt_explain_runs::ExplainOutput;
+use flt_files::{Contents, Failure, UnreadFile, status_beside};
 use flt_model::Journal;
 use flt_stack_crew::Ending;
 use std::alloc::{AllocError, Global};
@@ -74,9 +75,9 @@ impl Report {
         ensures output { result.output ≡ told.explained.output }
         ensures sent { result.sent ≡ told.sent }
         ensures remark { result.remark ≡ remark }
-        ensures status { result.status ≡ told_status told.explained.status unread.now }
+        ensures status { result.status ≡ status_beside told.explained.status unread.now }
     {
-        let status = told_status(told.explained.status, unread);
+        let status = status_beside(told.explained.status, unread);
         let mut report = Report::on(alloc, contents, told.explained.output, remark, status);
         report.codes = codes;
         report.sent = told.sent;
@@ -109,26 +110,6 @@ impl Report {
             &output[self.sent..]
         } else {
             &[]
-        }
-    }
-}
-
-/// The contents of the names of a command line, as far as they are kept.
-#[derive(Drop)]
-pub(crate) struct Contents {
-    pub(crate) texts: Vec<Vec<u8>>,
-    pub(crate) journal: Option<Journal>,
-}
-
-impl Contents {
-    /// No contents yet.
-    pub(crate) fn new(alloc: Global) -> Contents
-        ensures texts { result.texts.items ≡ [] }
-        ensures journal { result.journal ≡ None }
-    {
-        Contents {
-            texts: Vec::new(alloc),
-            journal: None,
         }
     }
 }
@@ -188,7 +169,7 @@ fn report_on_failure(
     ensures remark { IfOk result (λ report. report.remark.items ≡ before.items ++ (failure_line failure.now ++ 10 ∷ [])) }
     ensures err { IfErr result (λ e. e ≡ CommandFault.OutOfMemory) }
 {
-    let line = failure.line(alloc)?;
+    let line = failure_line(alloc, failure)?;
     let mut remark = before;
     remark.extend_from_slice(line.as_bytes())?;
     remark.push(b'\n')?;
@@ -229,9 +210,9 @@ pub(crate) fn report_on_explanation(
 ) -> Result<Report, CommandFault>
     ensures texts { IfOk result (λ report. report.texts ≡ contents.texts) }
     ensures codes { IfOk result (λ report. report.codes ≡ codes) }
-    ensures reported { IfOk result (λ report. spec.IsReported (said_of said.entry) report.output.items report.status) }
+    ensures reported { IfOk result (λ report. spec.IsReported (of_explain (said_of said.entry)) report.output.items report.status) }
     ensures sent { IfOk result (λ report. report.sent ≡ sent_in (said_of said.entry)) }
-    ensures remarked { IfOk result (λ report. spec.IsRemarkedAfter before.items (said_of said.entry) report.remark.items) }
+    ensures remarked { IfOk result (λ report. spec.IsRemarkedAfter before.items (of_explain (said_of said.entry)) report.remark.items) }
     ensures quiet { IfOk result (λ report. report.status ≢ 2 → report.remark.items ≡ before.items) }
     ensures err { IfErr result (λ e. (e ≡ CommandFault.OutOfMemory) × IsErr (said_of said.entry)) }
 {

@@ -1,25 +1,26 @@
 //! The law that a command line has at most one answer.
 
 ghost use Rattle.std.specs.Prelude.{◌≡◌, ℕ, Bool, List, Option, Result};
-ghost use Rattle.flt_commands.specs.Analyse.{IsAnalysed};
-ghost use Rattle.flt_commands.specs.Attempts.{Does};
-ghost use Rattle.flt_commands.specs.Check.{HasPoints, IsChecked};
+ghost use Rattle.flt_commands_texts.specs.Analyse.{IsAnalysed};
+ghost use Rattle.flt_files.specs.Attempts.{Does};
+ghost use Rattle.flt_commands_texts.specs.Check.{HasPoints, IsChecked};
 ghost use Rattle.flt_commands.specs.Commands.{Answers, IsSaid};
-ghost use Rattle.flt_commands.specs.Inputs.{Text};
-ghost use Rattle.flt_commands.specs.Replay.{IsReplayed};
+ghost use Rattle.flt_files.specs.Inputs.{Text};
+ghost use Rattle.flt_commands_runs.specs.Replay.{IsReplayed};
 ghost use Rattle.flt_commands.specs.Single as spec;
-ghost use Rattle.flt_commands.specs.Thin.{IsThinned};
+ghost use Rattle.flt_commands_texts.specs.Thin.{IsThinned};
 ghost use Rattle.flt_words.specs.Request.{Asked};
 ghost use Rattle.flt_words.specs.Words.{asked};
 ghost use Rattle.flt_commands.specs.declared.answer.Answer.{Answer};
-ghost use Rattle.flt_commands.specs.declared.failure.Failure.{Failure};
+ghost use Rattle.flt_commands.specs.declared.answer.Answer.TheVariants.{OfRun, OfText};
+ghost use Rattle.flt_files.specs.declared.failure.Failure.{Failure};
 ghost use Rattle.flt_commands.specs.declared.report.Report.{Report};
 ghost use Rattle.flt_graph.specs.declared.graph.Graph.{Graph};
 
-use crate::inputs::{Inputs, Pictures};
 use flt_analyse::{one_certificate_is_least, one_fault_is_named};
 use flt_cert::{one_certificate_is_spelled, one_fault_is_first};
 use flt_check::one_refusal_at_most;
+use flt_files::{Inputs, Pictures};
 use flt_graph::one_graph_at_most;
 use flt_model::{one_first_fault_at_most, one_journal_is_spelled};
 use flt_syntax::{
@@ -37,7 +38,7 @@ fn texts_have_one_graph()
 
 /// `check` has at most one answer to some bytes. It does nothing at run time: its clause is the law.
 fn one_check_at_most()
-    ensures { spec.SaysOne IsChecked }
+    ensures { spec.SaysOne OfText IsChecked }
 {
     texts_have_one_graph();
     fails_exactly_where_nothing_is_spelled();
@@ -48,7 +49,7 @@ fn one_check_at_most()
 
 /// `thin` has at most one answer to some bytes. It does nothing at run time: its clause is the law.
 fn one_thin_at_most()
-    ensures { spec.SaysOne IsThinned }
+    ensures { spec.SaysOne OfText IsThinned }
 {
     texts_have_one_graph();
     fails_exactly_where_nothing_is_spelled();
@@ -59,7 +60,7 @@ fn one_thin_at_most()
 
 /// `analyse` has at most one answer to some bytes. It does nothing at run time: its clause is the law.
 fn one_analysis_at_most()
-    ensures { spec.SaysOne IsAnalysed }
+    ensures { spec.SaysOne OfText IsAnalysed }
 {
     texts_have_one_graph();
     fails_exactly_where_nothing_is_spelled();
@@ -69,7 +70,7 @@ fn one_analysis_at_most()
 
 /// `replay` has at most one answer to some bytes. It does nothing at run time: its clause is the law.
 fn one_verdict_at_most()
-    ensures { spec.SaysOne IsReplayed }
+    ensures { spec.SaysOne OfRun IsReplayed }
 {
     spells_at_most_one();
     fails_exactly_where_nothing_is_spelled();

@@ -1,17 +1,11 @@
 pub mod AllFit
 pub mod Asked
-pub mod Counted
 pub mod Plain
 pub mod Declared
-pub mod Exclusive
 pub mod Fits
 pub mod Fronts
-pub mod Gathered
 pub mod Nested
 pub mod Returns
-pub mod Runs
 pub mod Simple
-pub mod Stacked
-pub mod Stripped
 pub mod Whole
 pub mod Names

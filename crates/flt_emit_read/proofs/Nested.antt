@@ -30,11 +30,9 @@ use Rattle.flt_emit.specs.Statements.{if_text, bare_text, repeat_text, closing, 
 use Rattle.flt_emit.specs.Statements.{return_text}
 use Rattle.flt_print.specs.Reprinting.{condition_without}
 use Rattle.flt_emit_read.specs.AsRead.{returned, step_as_read, statement_as_read}
-use Rattle.flt_emit_read.specs.declared.blocks.Open.{Open}
-use Rattle.flt_emit_read.specs.declared.blocks.Open.TheVariants.{First, Second, Repeated}
+use Rattle.flt_emit_read.specs.Blocks.{Open, First, Second, Repeated}
 use Rattle.flt_emit_read.specs.Blocks.{Reading, reading, ended, takes, past_end, step, lines_at}
-use Rattle.flt_emit_read.specs.declared.line.Line.{Line}
-use Rattle.flt_emit_read.specs.declared.line.Line.TheVariants.{Whole, Asks, Turns, Otherwise, Closes}
+use Rattle.flt_emit_read.specs.Lines.{Line, Whole, Asks, Turns, Otherwise, Closes}
 use Rattle.flt_emit_read.specs.Lines.{line_at, if_line, bare_line, repeat_line, line_start, named_line, number_name_at, context_at}
 use Rattle.flt_emit_read.specs.Lines.{removed_at, ask_forms, plain_line, plain_forms, lock_line, lock_forms, settle_line, settle_forms}
 use Rattle.flt_emit_read.proofs.Asked.{condition_reads}

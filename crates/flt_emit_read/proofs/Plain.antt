@@ -22,7 +22,7 @@ use Rattle.flt_emit.specs.Line.{label, indentation}
 use Rattle.flt_emit.specs.Names.{context_name, context_or_null, operation_name, final_status_name, status_name}
 use Rattle.flt_emit.specs.Statements.{plain_text, before_call, final_text}
 use Rattle.flt_emit_read.specs.Front.{◌>>=◌, after, by_form, past_blanks}
-use Rattle.flt_emit_read.specs.declared.line.Line.TheVariants.{Whole}
+use Rattle.flt_emit_read.specs.Lines.{Whole}
 use Rattle.flt_emit_read.specs.Lines.{line_at, context_line, ended_context, lock_end, lock_call, pended_at, pended_line, completing}
 use Rattle.flt_emit_read.specs.Lines.{completed_call, completed_return, line_start, named_line, number_name_at, context_at, removed_at}
 use Rattle.flt_emit_read.specs.Lines.{ask_forms, plain_line, plain_forms, lock_line, lock_forms, settle_line, settle_forms, locked}

@@ -18,8 +18,7 @@ use Rattle.flt_emit.specs.Names.{context_name, status_name}
 use Rattle.flt_emit.specs.Statements.{handed_text, before_return, final_text, passing, answer_text, return_text}
 use Rattle.flt_emit_read.specs.AsRead.{returned}
 use Rattle.flt_emit_read.specs.Front.{by_form}
-use Rattle.flt_emit_read.specs.declared.line.Line.{Line}
-use Rattle.flt_emit_read.specs.declared.line.Line.TheVariants.{Whole}
+use Rattle.flt_emit_read.specs.Lines.{Line, Whole}
 use Rattle.flt_emit_read.specs.Lines.{line_at, completed_call, completing_return, answers, bare_statuses, handed_line}
 use Rattle.flt_emit_read.specs.Lines.{handing, line_start, named_line, number_name_at, context_at, removed_at, ask_forms}
 use Rattle.flt_emit_read.specs.Lines.{plain_line, plain_forms, lock_line, lock_forms, settle_line, settle_forms}

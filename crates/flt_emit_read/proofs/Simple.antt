@@ -25,8 +25,7 @@ use Rattle.flt_emit.specs.Line.{label, atom_text, indentation}
 use Rattle.flt_emit.specs.Names.{number_name, context_name, removed_name, operation_name, own_file}
 use Rattle.flt_emit.specs.Statements.{action_text}
 use Rattle.flt_emit_read.specs.Front.{Front, after, past_blanks, number_at}
-use Rattle.flt_emit_read.specs.declared.line.Line.{Line}
-use Rattle.flt_emit_read.specs.declared.line.Line.TheVariants.{Whole}
+use Rattle.flt_emit_read.specs.Lines.{Line, Whole}
 use Rattle.flt_emit_read.specs.Lines.{line_at, number_line, context_line, removed_line, expression_after, file_at, write_line}
 use Rattle.flt_emit_read.specs.Lines.{atom_at, number_name_at, completing, line_start, named_line, context_at, removed_at, ask_forms}
 use Rattle.flt_emit_read.specs.Lines.{plain_line, plain_forms, lock_line, lock_forms, settle_line, settle_forms}

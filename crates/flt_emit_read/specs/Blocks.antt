@@ -1,20 +1,26 @@
 -- Lines one after the other, with the blocks that are open. This project's own.
-use Rattle.std.specs.Prelude.{ℕ, zero, suc, ◌+◌, true, false, List, [], ◌∷◌, ◌++◌, length, codes, Option, Some, None}
+use Rattle.std.specs.Prelude.{ℕ, zero, suc, ◌+◌, Bool, true, false, List, [], ◌∷◌, ◌++◌, length, codes, Option, Some, None}
 use Rattle.flt_rules.specs.declared.place.Place.{Place}
 use Rattle.flt_rules.specs.declared.place.Place.TheVariants as place
 use Rattle.flt_tree.specs.Filter.{no_span}
 use Rattle.flt_tree.specs.Names.{Text}
+use Rattle.flt_tree.specs.declared.filter.Condition.{Condition}
 use Rattle.flt_tree.specs.declared.filter.Lock.{Lock}
 use Rattle.flt_tree.specs.declared.filter.Statement.{Statement}
 use Rattle.flt_tree.specs.declared.filter.Statement.TheVariants.{If, Repeat}
 use Rattle.flt_emit.specs.Fixed as fixed
 use Rattle.flt_emit.specs.Statements.{passing}
-use Rattle.flt_emit_read.specs.declared.blocks.Open.{Open}
-use Rattle.flt_emit_read.specs.declared.blocks.Open.TheVariants.{First, Second, Repeated}
 use Rattle.flt_emit_read.specs.Front.{Front, ◌>>=◌, or_else, after}
-use Rattle.flt_emit_read.specs.declared.line.Line.{Line}
-use Rattle.flt_emit_read.specs.declared.line.Line.TheVariants.{Whole, Asks, Turns, Otherwise, Closes}
-use Rattle.flt_emit_read.specs.Lines.{line_at}
+use Rattle.flt_emit_read.specs.Lines.{Line, Whole, Asks, Turns, Otherwise, Closes, line_at}
+
+-- a block that is open, with the statements before it
+pub data Open : Type 0 where
+  -- the first block of an `if`, and whether that asks for the opposite
+  First : Bool → Condition → List Statement → Open
+  -- the second one, after the statements of the first
+  Second : Condition → List Statement → List Statement → Open
+  -- a `repeat`
+  Repeated : ℕ → List Statement → Open
 
 -- where a reading stands
 pub record Reading : Type 0 where

@@ -3,7 +3,5 @@ pub mod Blocks
 pub mod Front
 pub mod Laws
 pub mod Lines
-pub mod Seen
 pub mod Sources
-pub mod Stacks
 pub mod Unfit

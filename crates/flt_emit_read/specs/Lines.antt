@@ -25,6 +25,7 @@ use Rattle.flt_tree.specs.declared.filter.Lock.{Lock}
 use Rattle.flt_tree.specs.declared.filter.PlainCall.{PlainCall}
 use Rattle.flt_tree.specs.declared.filter.PlainCall.TheVariants as plain
 use Rattle.flt_tree.specs.declared.filter.Routine.{Routine}
+use Rattle.flt_tree.specs.declared.filter.Statement.{Statement}
 use Rattle.flt_tree.specs.declared.filter.Statement.TheVariants.{Act, Call, Return, If}
 use Rattle.flt_tree.specs.declared.filter.Status.{Status}
 use Rattle.flt_tree.specs.declared.filter.Status.TheVariants as statuses
@@ -45,9 +46,20 @@ use Rattle.flt_emit.specs.Expressions.{is_variable, is_zero}
 use Rattle.flt_emit.specs.Names.{number_name, context_name, removed_name, operation_name}
 use Rattle.flt_emit.specs.Names.{instance, own_file, existing_name, final_status_name}
 use Rattle.flt_print.specs.Reprinting.{nowhere}
-use Rattle.flt_emit_read.specs.declared.line.Line.{Line}
-use Rattle.flt_emit_read.specs.declared.line.Line.TheVariants.{Whole, Asks, Turns, Otherwise, Closes}
 use Rattle.flt_emit_read.specs.Front.{Front, ◌>>=◌, or_else, after, one_of, Forms, by_form, past_while, past_blanks, number_at, name_at}
+
+-- what a line of a callback says
+pub data Line : Type 0 where
+  -- a whole statement
+  Whole : Statement → Line
+  -- the beginning of an `if`, and whether it asks for the opposite
+  Asks : Bool → Condition → Line
+  -- the beginning of a `repeat`, and its turns
+  Turns : ℕ → Line
+  -- the first block of an `if` ends, and the second one begins
+  Otherwise : Line
+  -- a block ends
+  Closes : Line
 
 -- ---- names
 
@@ -236,10 +248,6 @@ completing_return false point f = []
 abbrev pub completed_return : Place → ℕ → OperationVariable → FinalStatus → Forms Line
 completed_return at point operations.Data f = completing_return (answers at) point f
 completed_return at point (operations.Removed o) f = []
-
--- the last of the lines that complete an operation
-abbrev pub completed : Place → ℕ → OperationVariable → FinalStatus → Text → Front Line
-completed at point d f = by_form (completed_call point d f ∷ completed_return at point d f)
 
 -- the lines that complete an operation, after the words that set its final status
 unfoldable pub completing : Place → ℕ → OperationVariable → Text → Front Line

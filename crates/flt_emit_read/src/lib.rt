@@ -1,24 +1,9 @@
-//! Reads the emitted C source of a filter back to the tree of its text, and the laws that it does.
+//! The meaning of the emitted C source of a filter: a reader of sources, as a definition that no program runs, and the laws that it reads each
+//! source back to the tree of its text. Beside them the one thing that C has no words for, a return that isn't one of its place.
 #![tactic(auto)]
 
-mod blocks;
-mod callbacks;
-mod calls;
-mod conditions;
-mod front;
-mod globals;
-mod heads;
 mod laws;
-mod line;
-mod lines;
-mod locks;
-mod numbers;
-mod parts;
-mod source;
-mod statements;
 mod unfit;
-mod words;
 
 pub use laws::{reads_back, reads_back_whole, says_one_filter};
-pub use source::{is_read_back, read_source};
 pub use unfit::unfit_return;

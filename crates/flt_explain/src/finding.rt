@@ -2,11 +2,10 @@
 
 ghost use Rattle.std.specs.Prelude.{◌≡◌, ◌<◌};
 ghost use Rattle.flt_rules.specs.Call.{place_of};
-ghost use Rattle.flt_explain.specs.Findings.{refusal_of};
 ghost use Rattle.flt_explain.specs.Subjects as spec;
 
 use flt_graph::{ContextVariable, OperationVariable};
-use flt_rules::{LockNumber, Refusal, Rule};
+use flt_rules::{LockNumber, Rule};
 
 /// The subject of a broken rule.
 #[derive(Clone, Copy)]
@@ -77,18 +76,6 @@ pub(crate) fn lock_place(lock: LockNumber) -> usize
 }
 
 impl Finding {
-    /// The rule and the place of the finding.
-    pub fn refusal(self) -> Refusal
-        ensures { result ≡ refusal_of self }
-    {
-        Refusal {
-            callback: self.callback,
-            point: self.point,
-            line: self.line,
-            rule: self.rule,
-        }
-    }
-
     /// Whether both have the same callback, point, rule and subject.
     pub(crate) fn is_same(&self, other: &Finding) -> bool
         ensures { result ≡ spec.is_same_finding self.now other.now }

@@ -7,27 +7,17 @@ ghost use Rattle.flt_explain.specs.Walk.{walked_from};
 
 use crate::finding::{Finding, Subject};
 use crate::walk::walk_callback;
-use flt_analyse::{AnalyseFault, Ticks, analyse};
+use flt_analyse::{AnalyseFault, analyse_plainly};
 use flt_graph::Graph;
 use flt_rules::Refusal;
 use sqlite_items::Items;
 use std::alloc::{AllocError, Global};
-use std::marker::Brand;
-use std::sync::ledger::{Blank, Ledger};
 
 /// The analyser's refusal of a text; none if the text has a certificate.
-fn refusal_with<L: Ledger>(
-    alloc: Global,
-    graph: &Graph,
-    blank: Blank,
-) -> Result<Option<Refusal>, AllocError>
-    requires name { blank.name ≡ L.name }
-    requires parts { blank.parts ≡ L.parts }
-    requires some { 0 < blank.parts }
+fn refusal(alloc: Global, graph: &Graph) -> Result<Option<Refusal>, AllocError>
     ensures { IfOk result (spec.Answers graph.now) }
 {
-    let mut ticks = Ticks::<L, 0, 0>::new(blank);
-    match analyse(alloc, graph, &mut ticks) {
+    match analyse_plainly(alloc, graph) {
         Ok(cert) => {
             let _callbacks = cert.callbacks();
             Ok(None)
@@ -35,12 +25,6 @@ fn refusal_with<L: Ledger>(
         Err(AnalyseFault::Refused(refusal)) => Ok(Some(refusal)),
         Err(AnalyseFault::OutOfMemory) => Err(AllocError),
     }
-}
-
-fn refusal(alloc: Global, graph: &Graph) -> Result<Option<Refusal>, AllocError>
-    ensures { IfOk result (spec.Answers graph.now) }
-{
-    refusal_with::<Brand>(alloc, graph, Blank::new(1))
 }
 
 /// Whether a finding is where the refusal is, by its rule.

@@ -1,3 +1,1 @@
 pub mod MoreDetails
-pub mod Pages
-pub mod MoreShown

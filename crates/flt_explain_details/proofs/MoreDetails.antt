@@ -12,10 +12,10 @@ use Rattle.flt_tree.specs.Names.{Text}
 use Rattle.flt_tree.specs.declared.filter.Filter.{Filter}
 use Rattle.flt_explain_details.specs.Alike.{AreLike, IsLike}
 use Rattle.flt_explain_details.specs.Stages.{AreDetails, AreDetailsBy, IsDetail}
-use Rattle.flt_explain_details.specs.Tracing.{AreTraces, IsShown}
+use Rattle.flt_explain_ways.specs.Tracing.{AreTraces, IsShown}
 use Rattle.flt_explain_details.specs.declared.study.Detail.{Detail}
-use Rattle.flt_explain_details.specs.declared.tracing.FindingTrace.{FindingTrace}
-use Rattle.flt_explain_details.specs.declared.tracing.Traces.{Traces}
+use Rattle.flt_explain_origins.specs.declared.trace.FindingTrace.{FindingTrace}
+use Rattle.flt_explain_ways.specs.declared.tracing.Traces.{Traces}
 
 more_zip : {A B : Type 0} (R : A → B → Type 0) (xs : List A) (ys : List B) (i : ℕ) (x : A) (y : B) → i < length xs → x ≡ get_or xs i x →
     AllZip R (take i xs) ys → R x y → AllZip R (take (suc i) xs) (ys ++ y ∷ [])

@@ -1,13 +1,2 @@
-pub mod Advice
 pub mod Alike
-pub mod Branches
-pub mod Case
-pub mod Closing
-pub mod Names
-pub mod Operands
-pub mod Page
-pub mod Reports
 pub mod Stages
-pub mod Subjects
-pub mod Tracing
-pub mod Words

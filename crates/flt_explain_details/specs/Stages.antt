@@ -3,37 +3,32 @@ use Rattle.std.specs.Prelude.{◌≡◌, ℕ, List, [], Option, Some, None, leng
 use Rattle.std.specs.List.{AllZip}
 use Rattle.flt_explain.specs.declared.finding.Finding.{Finding}
 use Rattle.flt_explain.specs.declared.finding.Subject.{Subject}
-use Rattle.flt_graph.specs.Graph.{span_at}
 use Rattle.flt_graph.specs.declared.graph.Graph.{Graph}
-use Rattle.flt_explain_ways.specs.declared.origin.Cause.{Cause}
-use Rattle.flt_explain_ways.specs.declared.origin.Cause.TheVariants as cause
-use Rattle.flt_places.specs.Places.{place_in}
+use Rattle.flt_explain_origins.specs.declared.origin.Cause.{Cause}
+use Rattle.flt_explain_origins.specs.declared.origin.Cause.TheVariants as cause
 use Rattle.flt_places.specs.declared.files.Files.{Files}
 use Rattle.flt_tree.specs.Names.{Text}
 use Rattle.flt_tree.specs.declared.filter.Filter.{Filter}
-use Rattle.flt_tree.specs.declared.filter.Position.{Position}
-use Rattle.flt_explain_ways.specs.declared.answer.Answer.{Answer}
-use Rattle.flt_explain_ways.specs.declared.answer.Answer.TheVariants as answer
-use Rattle.flt_explain_ways.specs.declared.answer.Step.{Step}
-use Rattle.flt_explain_ways.specs.declared.answer.Way.{Way}
+use Rattle.flt_explain_origins.specs.declared.answer.Answer.{Answer}
+use Rattle.flt_explain_origins.specs.declared.answer.Answer.TheVariants as answer
+use Rattle.flt_explain_origins.specs.declared.answer.Step.{Step}
+use Rattle.flt_explain_origins.specs.declared.answer.Way.{Way}
 use Rattle.flt_explain_details.specs.Alike.{AreLike}
-use Rattle.flt_explain_details.specs.Branches.{branch_at, step_outcome}
-use Rattle.flt_explain_details.specs.Operands.{AreMarks}
-use Rattle.flt_explain_details.specs.Subjects.{state_at_end}
-use Rattle.flt_explain_details.specs.Tracing.{AreTraces, cause_of, other_way, way_of}
-use Rattle.flt_explain_details.specs.Words.{AreWords}
+use Rattle.flt_explain_advice.specs.Branches.{branch_at, step_outcome}
+use Rattle.flt_explain_texts.specs.Operands.{AreMarks}
+use Rattle.flt_explain_texts.specs.Scene.{place_of}
+use Rattle.flt_explain_advice.specs.Subjects.{state_at_end}
+use Rattle.flt_explain_origins.specs.Trace.{cause_of, other_way, way_of}
+use Rattle.flt_explain_ways.specs.Tracing.{AreTraces}
+use Rattle.flt_explain_advice.specs.Words.{AreWords}
 use Rattle.flt_explain_details.specs.declared.study.Detail.{Detail}
 use Rattle.flt_explain_details.specs.declared.study.Maker.{Maker}
 use Rattle.flt_explain_details.specs.declared.study.Route.{Route}
 use Rattle.flt_explain_details.specs.declared.study.Stage.{Stage}
 use Rattle.flt_explain_details.specs.declared.study.WayKind.{WayKind}
 use Rattle.flt_explain_details.specs.declared.study.WayKind.TheVariants.{Clean, Behind, Unreached, Unknown}
-use Rattle.flt_explain_details.specs.declared.tracing.FindingTrace.{FindingTrace}
-use Rattle.flt_explain_details.specs.declared.tracing.Traces.{Traces}
-
--- where a point of a callback stands
-abbrev pub place_of : Text → Graph → ℕ → ℕ → Position
-place_of text g callback point = place_in text (span_at g callback point).start
+use Rattle.flt_explain_origins.specs.declared.trace.FindingTrace.{FindingTrace}
+use Rattle.flt_explain_ways.specs.declared.tracing.Traces.{Traces}
 
 -- what is asked at a step's point, and how it comes out; nothing where nothing is asked
 abbrev pub branch_words : Text → Graph → ℕ → ℕ → Option Text → Text

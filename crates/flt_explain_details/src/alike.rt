@@ -4,7 +4,7 @@ ghost use Rattle.std.specs.Prelude.{◌≡◌, IfSome};
 ghost use Rattle.flt_explain_details.specs.Alike as spec;
 
 use flt_explain::{Finding, Subject};
-use flt_explain_ways::Group;
+use flt_explain_origins::Group;
 use flt_rules::number;
 use std::alloc::{AllocError, Global};
 

@@ -1,24 +1,16 @@
 //! The details of a finding for other forms of reports: its words and its places.
 
-ghost use Rattle.std.specs.Prelude.{◌≡◌, Some, option_copied, IfOk};
-ghost use Rattle.flt_explain_details.specs.Branches.{step_outcome};
+ghost use Rattle.std.specs.Prelude.{◌≡◌, ◌<◌, Some, length, option_copied, slice_get, IfOk};
+ghost use Rattle.flt_explain_advice.specs.Branches.{step_outcome};
 ghost use Rattle.flt_explain_details.specs.Stages as spec;
-ghost use Rattle.flt_explain_details.specs.Subjects as about;
-ghost use Rattle.flt_explain_details.specs.Tracing as tracing;
-ghost use Rattle.flt_explain_details.specs.Words as words;
+ghost use Rattle.flt_explain_origins.specs.Trace.{cause_of};
 
-use crate::advice::{tell_help, tell_note, tell_title};
 use crate::alike::{firsts_of, like};
-use crate::branches::{step_outcome, tell_branch};
-use crate::case::Case;
-use crate::operands::Marks;
-use crate::page::Page;
-use crate::scene::Scene;
-use crate::sources::Source;
-use crate::subjects::state_word;
-use crate::tracing::{FindingTrace, Traces};
 use flt_explain::{Finding, Subject};
-use flt_explain_ways::{Answer, Cause, Step, Way};
+use flt_explain_advice::{Words, state_at_end, step_outcome, tell_branch, words_of};
+use flt_explain_origins::{Answer, Cause, FindingTrace, Step, Way};
+use flt_explain_texts::{Marks, Page, Scene, Source};
+use flt_explain_ways::Traces;
 use flt_graph::Graph;
 use flt_places::Lines;
 use flt_syntax::Tree;
@@ -49,21 +41,6 @@ pub enum WayKind {
     Unreached,
     /// No path was found among the situations that were looked at.
     Unknown,
-}
-
-/// The words about a finding.
-#[derive(Drop)]
-pub struct Words {
-    /// The mistake.
-    pub title: Vec<u8>,
-    /// How to fix it; it may have several lines.
-    pub help: Vec<u8>,
-    /// A note that the rule is stricter there than the driver kit, or that numbers rule out the path; or empty.
-    pub note: Vec<u8>,
-    /// The head of its callback.
-    pub head: Vec<u8>,
-    /// Its subject.
-    pub subject: Vec<u8>,
 }
 
 /// The step that caused a finding.
@@ -216,7 +193,7 @@ fn origin_of(
 ) -> Result<Option<Maker>, AllocError>
     ensures { IfOk result
         (spec.IsMadeBy scene.now.lines.now scene.now.tree.now.filter scene.now.graph.now callback subject
-        (tracing.cause_of (Some shown.now))) }
+        (cause_of (Some shown.now))) }
 {
     let Some(origin) = shown.origin.as_ref() else {
         return Ok(None);
@@ -224,94 +201,6 @@ fn origin_of(
     match origin.cause {
         Cause::Made(step) => Ok(Some(maker_of(alloc, scene, callback, subject, step)?)),
         Cause::Entry => Ok(None),
-    }
-}
-
-// ---- words
-
-#[tactic(auto, unfolding(crate::specs::Words::title_of))]
-fn title_of(alloc: Global, case: &Case<'_>) -> Result<Vec<u8>, AllocError>
-    ensures { IfOk result (λ v. v.items ≡ words.title_of case.now.scene.files case.now.scene.lines.now case.now.scene.tree.now.filter
-        case.now.scene.graph.now
-        case.now.finding (option_copied case.now.shown)) }
-{
-    let mut page = Page::new(alloc);
-    tell_title(&mut page, case)?;
-    Ok(page.out)
-}
-
-#[tactic(auto, unfolding(crate::specs::Words::help_of))]
-fn help_of(alloc: Global, case: &Case<'_>) -> Result<Vec<u8>, AllocError>
-    ensures { IfOk result (λ v. v.items ≡ words.help_of case.now.scene.files case.now.scene.lines.now case.now.scene.tree.now.filter
-        case.now.scene.graph.now
-        case.now.finding (option_copied case.now.shown)) }
-{
-    let mut page = Page::new(alloc);
-    tell_help(&mut page, case)?;
-    Ok(page.out)
-}
-
-#[tactic(auto, unfolding(crate::specs::Words::note_of))]
-fn note_of(alloc: Global, case: &Case<'_>) -> Result<Vec<u8>, AllocError>
-    ensures { IfOk result (λ v. v.items ≡ words.note_of case.now.scene.files case.now.scene.lines.now case.now.scene.tree.now.filter
-        case.now.scene.graph.now
-        case.now.finding (option_copied case.now.shown)) }
-{
-    let mut page = Page::new(alloc);
-    tell_note(&mut page, case)?;
-    Ok(page.out)
-}
-
-fn subject_of(alloc: Global, case: &Case<'_>) -> Result<Vec<u8>, AllocError>
-    ensures { IfOk result (λ v. v.items ≡ about.subject_told case.now.scene.tree.now.filter case.now.finding.subject) }
-{
-    let mut page = Page::new(alloc);
-    let (mark, name) = case.subject();
-    page.words(&[mark, name, mark])?;
-    Ok(page.out)
-}
-
-/// The words of a case.
-fn words_in(alloc: Global, case: &Case<'_>) -> Result<Words, AllocError>
-    ensures { IfOk result (words.AreWords case.now.scene.files case.now.scene.lines.now case.now.scene.tree.now.filter
-        case.now.scene.graph.now case.now.finding
-        (option_copied case.now.shown)) }
-{
-    let title = title_of(alloc, case)?;
-    let help = help_of(alloc, case)?;
-    let note = note_of(alloc, case)?;
-    let subject = subject_of(alloc, case)?;
-    let head = Vec::from_slice(alloc, case.head())?;
-    Ok(Words {
-        title,
-        help,
-        note,
-        head,
-        subject,
-    })
-}
-
-/// The words about a finding, by its trace.
-pub fn words_of(
-    alloc: Global,
-    scene: &Scene<'_>,
-    finding: &Finding,
-    shown: Option<&FindingTrace>,
-) -> Result<Words, AllocError>
-    ensures { IfOk result
-        (words.AreWords scene.now.files scene.now.lines.now scene.now.tree.now.filter scene.now.graph.now finding.now
-        (option_copied shown.entry)) }
-{
-    words_in(alloc, &Case::of(scene, finding, shown))
-}
-
-/// The state of the finding's subject at the end of a path, in a word.
-pub fn state_at_end(finding: &Finding, way: Option<&Way>) -> Option<&'static str>
-    ensures { option_copied result ≡ about.state_at_end finding.now.subject (option_copied way.entry) }
-{
-    match way {
-        Some(way) => state_word(way.end.situation.state(), finding.subject),
-        None => None,
     }
 }
 
@@ -385,6 +274,15 @@ fn detail_by(
     })
 }
 
+/// The trace of the finding of a number that is there.
+#[tactic(auto, using(std::proofs::lemmas::Option::slice_get_read))]
+fn trace_at(traces: &Traces, number: usize) -> &FindingTrace
+    requires { number < length traces.now.shown }
+    ensures { slice_get traces.now.shown number ≡ Some result.now }
+{
+    &traces.shown.as_slice()[number]
+}
+
 /// The details of each finding of a text that parses, in their order. The paths of the first one of each origin serve the others.
 ///
 /// # Errors
@@ -412,7 +310,7 @@ pub fn details(
     for finding in found {
         let number = all.len();
         let like = like(found, firsts.as_slice(), number);
-        let shown = traces.at(number);
+        let shown = trace_at(&traces, number);
         all.push(detail_by(alloc, &scene, finding, shown, like)?)?;
     }
     Ok(all)

@@ -1,7 +1,7 @@
 -- A text in which nothing is found and of which nothing is warned, as JSON. This project's own format.
 use Rattle.std.specs.Prelude.{ℕ, List, [], ◌∷◌, ◌++◌, Bool, true, codes, false, if◌then◌else◌}
-use Rattle.flt_explain_details.specs.declared.judged.TextJudgement.{TextJudgement}
-use Rattle.flt_explain_details.specs.declared.judged.TextJudgement.TheVariants.{Unread, Known}
+use Rattle.flt_explain_texts.specs.declared.judged.TextJudgement.{TextJudgement}
+use Rattle.flt_explain_texts.specs.declared.judged.TextJudgement.TheVariants.{Unread, Known}
 use Rattle.flt_explain.specs.declared.finding.Finding.{Finding}
 use Rattle.flt_explain_warning_details.specs.declared.detail.WarningDetail.{WarningDetail}
 use Rattle.json.specs.Token.{Token, begin_object, end_object}

@@ -1,12 +1,12 @@
 -- Results of SARIF 2.1.0 (OASIS): where C files and their annotations differ.
 use Rattle.std.specs.Prelude.{ℕ, List, [], ◌∷◌, ◌++◌, Some, codes, flat_map, if◌then◌else◌, option_map}
 use Rattle.std.specs.Borrow.{Bor}
-use Rattle.flt_columns.specs.Columns.{column_of}
+use Rattle.flt_places.specs.Columns.{column_of}
 use Rattle.flt_c_drift.specs.declared.drift.Drift.{Drift}
 use Rattle.flt_c_drift.specs.declared.drift.DriftKind.{DriftKind}
 use Rattle.flt_c_drift.specs.declared.drift.Span.{Span}
-use Rattle.flt_c_drift_reports.specs.Report.{has_difference, sentence}
-use Rattle.flt_c_drift_reports.specs.Words.{code, help}
+use Rattle.flt_c_drift.specs.Report.{has_difference, sentence}
+use Rattle.flt_c_drift.specs.DriftWords.{code, help}
 use Rattle.flt_places.specs.declared.places.Region.{Region}
 use Rattle.flt_tree.specs.Names.{Text}
 use Rattle.flt_tree.specs.declared.filter.Position.{Position}

@@ -3,8 +3,8 @@ use Rattle.std.specs.Prelude.{ℕ, ◌+◌, List, [], ◌∷◌, ◌++◌, Bool,
 use Rattle.std.specs.List.{list_any}
 use Rattle.flt_c_drift.specs.declared.drift.Drift.{Drift}
 use Rattle.flt_c_drift.specs.declared.drift.DriftKind.{DriftKind}
-use Rattle.flt_c_drift_reports.specs.Report.{has_difference, sentence}
-use Rattle.flt_c_drift_reports.specs.Words.{code, help, is_difference}
+use Rattle.flt_c_drift.specs.Report.{has_difference, sentence}
+use Rattle.flt_c_drift.specs.DriftWords.{code, help, is_difference}
 use Rattle.flt_places.specs.Places.{region_in}
 use Rattle.flt_places.specs.declared.places.Region.{Region}
 use Rattle.flt_tree.specs.Names.{Text}

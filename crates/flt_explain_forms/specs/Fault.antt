@@ -8,9 +8,9 @@ use Rattle.flt_explain_hints.specs.declared.choices.Choices.{Choices}
 use Rattle.flt_explain_hints.specs.declared.choices.ExpectedWord.{ExpectedWord}
 use Rattle.flt_explain_hints.specs.declared.open_call.OpenCall.{OpenCall}
 use Rattle.flt_explain_hints.specs.declared.troubles.Trouble.{Trouble}
-use Rattle.flt_columns.specs.Columns.{file_column_up_to}
-use Rattle.flt_explain_details.specs.Closing.{fault_name}
-use Rattle.flt_explain_details.specs.Page.{line_told}
+use Rattle.flt_places.specs.Columns.{file_column_up_to}
+use Rattle.flt_explain_texts.specs.Closing.{fault_name}
+use Rattle.flt_explain_texts.specs.Page.{line_told}
 use Rattle.flt_places.specs.Files.{file_at, file_name, file_place}
 use Rattle.flt_places.specs.declared.files.Files.{Files}
 use Rattle.flt_syntax.specs.declared.fault.SyntaxFault.{SyntaxFault}

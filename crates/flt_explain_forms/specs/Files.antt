@@ -3,7 +3,7 @@ use Rattle.std.specs.Prelude.{ℕ, List, [], ◌∷◌, ◌++◌, ◌==◌, Bool
 use Rattle.std.specs.Borrow.{Bor}
 use Rattle.std.specs.Option.{unwrap_or}
 use Rattle.std.specs.Str.{bytes_eq}
-use Rattle.flt_explain_details.specs.declared.sources.Source.{Source}
+use Rattle.flt_explain_texts.specs.declared.sources.Source.{Source}
 use Rattle.flt_places.specs.declared.files.SourceFile.{SourceFile}
 use Rattle.flt_explain_forms.specs.Uri.{reference_of}
 use Rattle.flt_explain_forms.specs.declared.drifted.DriftedFile.{DriftedFile}

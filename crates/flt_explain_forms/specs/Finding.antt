@@ -5,7 +5,7 @@ use Rattle.flt_rules.specs.Rule.{rule_name, text}
 use Rattle.json.specs.Token.{Token, begin_object, end_object, key}
 use Rattle.flt_explain_details.specs.declared.study.Detail.{Detail}
 use Rattle.flt_explain_details.specs.declared.study.Route.{Route}
-use Rattle.flt_explain_details.specs.declared.study.Words.{Words}
+use Rattle.flt_explain_advice.specs.declared.words.Words.{Words}
 use Rattle.flt_explain.specs.declared.finding.Finding.{Finding}
 use Rattle.flt_graph.specs.declared.graph.Graph.{Graph}
 use Rattle.flt_places.specs.Files.{file_at, file_name}

@@ -2,11 +2,11 @@
 use Rattle.std.specs.Prelude.{◌≡◌, ℕ, ◌+◌, List, [], ◌∷◌, ◌++◌, Option, flat_map, max}
 use Rattle.std.specs.Borrow.{Bor}
 use Rattle.flt_explain.specs.declared.finding.Finding.{Finding}
-use Rattle.flt_explain_details.specs.Reports.{IsJudged, name_of}
+use Rattle.flt_explain_texts.specs.Reports.{IsJudged, name_of}
 use Rattle.flt_explain_details.specs.Stages.{AreDetails}
-use Rattle.flt_explain_details.specs.declared.judged.TextJudgement.{TextJudgement}
-use Rattle.flt_explain_details.specs.declared.judged.TextJudgement.TheVariants.{Unread, Known}
-use Rattle.flt_explain_details.specs.declared.sources.Source.{Source}
+use Rattle.flt_explain_texts.specs.declared.judged.TextJudgement.{TextJudgement}
+use Rattle.flt_explain_texts.specs.declared.judged.TextJudgement.TheVariants.{Unread, Known}
+use Rattle.flt_explain_texts.specs.declared.sources.Source.{Source}
 use Rattle.flt_explain_details.specs.declared.study.Detail.{Detail}
 use Rattle.flt_graph.specs.declared.graph.Graph.{Graph}
 use Rattle.json.specs.Token.{Token}

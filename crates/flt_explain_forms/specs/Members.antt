@@ -6,7 +6,7 @@ use Rattle.std.specs.Str.Lossy.{utf8_lossy}
 use Rattle.json.specs.Print.{print}
 use Rattle.json.specs.Token.{Token, begin_array, begin_object, end_array, end_object, key, string, number, null}
 use Rattle.json.specs.Written.{Written}
-use Rattle.flt_explain_details.specs.declared.operands.Marks.{Marks}
+use Rattle.flt_explain_texts.specs.declared.operands.Marks.{Marks}
 use Rattle.flt_places.specs.Files.{file_at, file_name, file_place}
 use Rattle.flt_places.specs.declared.files.Files.{Files}
 use Rattle.flt_places.specs.declared.places.Region.{Region}

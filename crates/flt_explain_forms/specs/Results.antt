@@ -1,6 +1,6 @@
 -- Results of SARIF 2.1.0 (OASIS): findings and faults of texts.
 use Rattle.std.specs.Prelude.{ℕ, List, [], ◌∷◌, ◌++◌, Bool, Option, Some, None, codes, flat_map, if◌then◌else◌, length, slice_get}
-use Rattle.flt_explain_details.specs.declared.operands.Marks.{Marks}
+use Rattle.flt_explain_texts.specs.declared.operands.Marks.{Marks}
 use Rattle.flt_explain_details.specs.declared.study.Detail.{Detail}
 use Rattle.flt_explain_details.specs.declared.study.Maker.{Maker}
 use Rattle.flt_explain_details.specs.declared.study.Stage.{Stage}
@@ -13,7 +13,7 @@ use Rattle.flt_places.specs.declared.places.Region.{Region}
 use Rattle.flt_syntax.specs.declared.fault.SyntaxFault.{SyntaxFault}
 use Rattle.flt_tree.specs.declared.filter.Position.{Position}
 use Rattle.json.specs.Token.{Token, begin_object, end_object, key}
-use Rattle.flt_columns.specs.Columns.{file_column_behind}
+use Rattle.flt_places.specs.Columns.{file_column_behind}
 use Rattle.flt_explain_forms.specs.Fingerprints.{finding_key, fingerprint, numbered}
 use Rattle.flt_explain_forms.specs.Members.{array_member, filled_member, number_member, object_member, string_member, text_member}
 use Rattle.flt_explain_forms.specs.Points.{region_at}

@@ -2,10 +2,10 @@
 use Rattle.std.specs.Prelude.{◌≡◌, ℕ, List, [], ◌∷◌, ◌++◌, IfSome, Option, Some, None, codes, flat_map, is_some}
 use Rattle.std.specs.Borrow.{Bor}
 use Rattle.std.specs.Io.{StartsWith}
-use Rattle.flt_explain_details.specs.Closing.{fault_name}
+use Rattle.flt_explain_texts.specs.Closing.{fault_name}
 use Rattle.flt_c_drift.specs.declared.drift.DriftKind.{DriftKind}
 use Rattle.flt_c_drift.specs.declared.drift.DriftKind.TheVariants as drift
-use Rattle.flt_c_drift_reports.specs.Words as drifts
+use Rattle.flt_c_drift.specs.DriftWords as drifts
 use Rattle.flt_explain_pages.specs.Pages.{has_page, title}
 use Rattle.flt_rules.specs.Rule.{rule_name, text}
 use Rattle.flt_rules.specs.declared.rule.Rule.{Rule}

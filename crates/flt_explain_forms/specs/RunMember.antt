@@ -2,8 +2,8 @@
 use Rattle.std.specs.Prelude.{ℕ, List, [], ◌∷◌, ◌++◌, Option, Some, None, codes, flat_map, map, slice_get}
 use Rattle.std.specs.Borrow.{Bor}
 use Rattle.json.specs.Token.{Token, begin_object, end_object, key}
-use Rattle.flt_explain_details.specs.Reports.{name_of}
-use Rattle.flt_explain_details.specs.declared.sources.Source.{Source}
+use Rattle.flt_explain_texts.specs.Reports.{name_of}
+use Rattle.flt_explain_texts.specs.declared.sources.Source.{Source}
 use Rattle.flt_explain_flows.specs.declared.flows.FlowActivation.{FlowActivation}
 use Rattle.flt_explain_flows.specs.declared.flows.FlowStep.{FlowStep}
 use Rattle.flt_places.specs.Places.{region_of}

@@ -5,11 +5,11 @@ use Rattle.flt_explain.specs.declared.finding.Finding.{Finding}
 use Rattle.flt_explain_hints.specs.Telling.{title_of}
 use Rattle.flt_explain_hints.specs.Trouble.{IsDescribed}
 use Rattle.flt_explain_hints.specs.declared.troubles.Trouble.{Trouble}
-use Rattle.flt_explain_details.specs.Reports.{IsJudged}
+use Rattle.flt_explain_texts.specs.Reports.{IsJudged}
 use Rattle.flt_explain_details.specs.Stages.{AreDetails}
-use Rattle.flt_explain_details.specs.declared.judged.TextJudgement.{TextJudgement}
-use Rattle.flt_explain_details.specs.declared.judged.TextJudgement.TheVariants.{Unread, Known}
-use Rattle.flt_explain_details.specs.declared.sources.Source.{Source}
+use Rattle.flt_explain_texts.specs.declared.judged.TextJudgement.{TextJudgement}
+use Rattle.flt_explain_texts.specs.declared.judged.TextJudgement.TheVariants.{Unread, Known}
+use Rattle.flt_explain_texts.specs.declared.sources.Source.{Source}
 use Rattle.flt_explain_details.specs.declared.study.Detail.{Detail}
 use Rattle.flt_graph.specs.declared.graph.Graph.{Graph}
 use Rattle.flt_tree.specs.declared.filter.Filter.{Filter}
@@ -30,7 +30,7 @@ use Rattle.flt_explain_forms.specs.WarningResults as warning
 use Rattle.flt_explain_forms.specs.declared.drifted.DriftedFile.{DriftedFile}
 use Rattle.flt_explain_forms.specs.declared.file.File.{File}
 use Rattle.flt_explain_forms.specs.declared.run.FindingRun.{FindingRun}
-use Rattle.flt_explain_forms.specs.declared.unread.UnreadFile.{UnreadFile}
+use Rattle.flt_files.specs.declared.unread.UnreadFile.{UnreadFile}
 use Rattle.flt_explain_forms.specs.declared.uri.Reference.{Reference}
 
 -- the result of a text that doesn't parse: its first fault, what is said of it, and how to fix it

@@ -2,7 +2,7 @@
 use Rattle.std.specs.Prelude.{◌≡◌, ℕ, List, [], ◌∷◌, ◌++◌, Option, Some, None, codes}
 use Rattle.std.specs.Fmt.{decimal}
 use Rattle.flt_rules.specs.Rule.{rule_name}
-use Rattle.flt_explain_details.specs.Closing.{fault_name}
+use Rattle.flt_explain_texts.specs.Closing.{fault_name}
 use Rattle.flt_explain_details.specs.declared.study.Detail.{Detail}
 use Rattle.flt_explain_hints.specs.Telling.{title_of}
 use Rattle.flt_explain_hints.specs.Trouble.{IsDescribed}

@@ -1,8 +1,8 @@
 -- What is warned of texts, and the status that comes of it. This project's own program.
 use Rattle.std.specs.Prelude.{◌≡◌, ℕ, List, [], Bool}
-use Rattle.flt_explain_details.specs.declared.judged.TextJudgement.{TextJudgement}
-use Rattle.flt_explain_details.specs.declared.judged.TextJudgement.TheVariants.{Unread, Known}
-use Rattle.flt_explain_details.specs.declared.sources.Source.{Source}
+use Rattle.flt_explain_texts.specs.declared.judged.TextJudgement.{TextJudgement}
+use Rattle.flt_explain_texts.specs.declared.judged.TextJudgement.TheVariants.{Unread, Known}
+use Rattle.flt_explain_texts.specs.declared.sources.Source.{Source}
 use Rattle.flt_explain_warnings.specs.declared.kinds.AllowedKinds.{AllowedKinds}
 use Rattle.flt_explain_warning_details.specs.Details.{AreWarningDetails}
 use Rattle.flt_explain_warning_details.specs.Options.{warned_status}

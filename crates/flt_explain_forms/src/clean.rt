@@ -9,7 +9,7 @@ use crate::as_lines::Style;
 use crate::members::{close_object, open_object};
 use crate::preface::put_preface;
 use flt_explain::Finding;
-use flt_explain_details::TextJudgement;
+use flt_explain_texts::TextJudgement;
 use flt_explain_warning_details::WarningDetail;
 use json::Writer;
 use std::alloc::AllocError;

@@ -14,10 +14,8 @@ use crate::results::{
     put_whole_artifact,
 };
 use crate::rules::{ResultKind, put_of_rule};
-use flt_c_drift::{Drift, DriftKind, Span};
-use flt_c_drift_reports::{code, drift_sentence, has_difference};
-use flt_columns::column_of;
-use flt_places::{Lines, Region};
+use flt_c_drift::{Drift, DriftKind, Span, code, drift_sentence, has_difference};
+use flt_places::{Lines, Region, column_of};
 use flt_tree::Position;
 use json::Writer;
 use sqlite_items::Items;

@@ -1,14 +1,13 @@
 //! The drifts of C files, as JSON.
 
 ghost use Rattle.std.specs.Prelude.{◌≡◌, ◌++◌, IfOk, codes, flat_map};
-ghost use Rattle.flt_c_drift_reports.specs.Words as words;
+ghost use Rattle.flt_c_drift.specs.DriftWords as words;
 ghost use Rattle.flt_explain_forms.specs.Drifted as spec;
 ghost use Rattle.flt_explain_forms.specs.Members.{Adds, line_of, string_member};
 
 use crate::members::{close_object, open_object, put_place, put_string, put_text};
 use crate::preface::put_preface;
-use flt_c_drift::{Drift, DriftKind};
-use flt_c_drift_reports::{code, drift_sentence, has_difference, help, is_difference};
+use flt_c_drift::{Drift, DriftKind, code, drift_sentence, has_difference, help, is_difference};
 use flt_places::{Lines, Region};
 use flt_tree::Span;
 use json::Writer;

@@ -9,10 +9,9 @@ use crate::members::{
 };
 use crate::preface::put_preface;
 use crate::short::place_of;
-use flt_columns::file_column_up_to;
-use flt_explain_details::{fault_name, line_words};
 use flt_explain_hints::{Choices, ExpectedWord, FaultExplanation, OpenCall, Trouble};
-use flt_places::{Files, lines_of};
+use flt_explain_texts::{fault_name, line_words};
+use flt_places::{Files, file_column_up_to, lines_of};
 use flt_syntax::SyntaxFault;
 use flt_tree::Position;
 use json::Writer;

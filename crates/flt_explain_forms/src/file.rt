@@ -5,7 +5,7 @@ ghost use Rattle.flt_explain_forms.specs.Files as spec;
 
 use crate::drifted::DriftedFile;
 use crate::uri::{Reference, reference_to};
-use flt_explain_details::Source;
+use flt_explain_texts::Source;
 use flt_places::{Files, Lines, SourceFile};
 use sqlite_items::Items;
 use std::alloc::{AllocError, Global};

@@ -1,6 +1,6 @@
-//! The findings of `explain` for other programs: line by line, or as SARIF. It exports `lines` and `sarif`, `UnreadFile`, by which SARIF
-//! reports a file that isn't read, `FindingRun`, a run that breaks something because of a finding, and `DriftedFile`,
-//! `drift_objects` and `drift_status`, by which both forms report where C files and their annotations differ.
+//! The findings of `explain` for other programs: line by line, or as SARIF. It exports `lines` and `sarif`, `FindingRun`, a
+//! run that breaks something because of a finding, and `DriftedFile`, `drift_objects` and `drift_status`, by which both forms report where C
+//! files and their annotations differ.
 #![tactic(auto)]
 
 mod artifacts;
@@ -34,4 +34,3 @@ pub use as_lines::{Style, lines};
 pub use as_sarif::sarif;
 pub use drifted::{DriftedFile, drift_objects, drift_status};
 pub use run::FindingRun;
-pub use unread::UnreadFile;

@@ -5,7 +5,7 @@ ghost use Rattle.std.specs.Str.Lossy.{utf8_lossy};
 ghost use Rattle.json.specs.Token.{begin_array, begin_object, end_array, end_object, key, string};
 ghost use Rattle.flt_explain_forms.specs.Members as spec;
 
-use flt_explain_details::Marks;
+use flt_explain_texts::Marks;
 use flt_places::{Files, Region};
 use flt_tree::Position;
 use json::Writer;

@@ -2,7 +2,7 @@
 
 ghost use Rattle.std.specs.Prelude.{◌≡◌, ◌∷◌, ◌++◌, [], IfOk, List, codes, flat_map};
 ghost use Rattle.json.specs.Token.{Token, string};
-ghost use Rattle.flt_c_drift_reports.specs.Words.{code as drift_code};
+ghost use Rattle.flt_c_drift.specs.DriftWords.{code as drift_code};
 ghost use Rattle.flt_explain_forms.specs.Members.{Added, Adds, array_member, number_member, object_member, string_member, text_member};
 ghost use Rattle.flt_explain_forms.specs.Paragraphs as paragraphs;
 ghost use Rattle.flt_explain_forms.specs.Rules as spec;
@@ -12,10 +12,9 @@ use crate::members::{
     close_array, close_object, open_array, open_object, put_key, put_number, put_string, put_text,
 };
 use crate::paragraphs::first_paragraph;
-use flt_c_drift::DriftKind;
-use flt_c_drift_reports::{code, help};
-use flt_explain_details::fault_name;
+use flt_c_drift::{DriftKind, code, help};
 use flt_explain_pages::page;
+use flt_explain_texts::fault_name;
 use flt_explain_warnings::Kind;
 use flt_rules::{Rule, text};
 use flt_syntax::FaultKind;

@@ -10,8 +10,8 @@ use crate::members::{
     put_region_members, put_string,
 };
 use crate::run::{FindingRun, run_of, source_of as source_of_activation};
-use flt_explain_details::Source;
 use flt_explain_flows::{FlowActivation, FlowStep};
+use flt_explain_texts::Source;
 use flt_places::{Files, Lines, Region};
 use flt_tree::Span;
 use json::Writer;

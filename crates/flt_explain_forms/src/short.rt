@@ -6,8 +6,9 @@ ghost use Rattle.flt_explain_forms.specs.Short as spec;
 ghost use Rattle.flt_syntax.specs.TextFails.{Fails};
 
 use flt_explain::Finding;
-use flt_explain_details::{Detail, Source, details, fault_name};
+use flt_explain_details::{Detail, details};
 use flt_explain_hints::{describe, tell};
+use flt_explain_texts::{Source, fault_name};
 use flt_explain_warning_details::WarningDetail;
 use flt_graph::Graph;
 use flt_places::Files;

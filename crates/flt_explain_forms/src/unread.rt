@@ -12,18 +12,9 @@ use crate::members::{
 };
 use crate::results::{put_level, put_reference};
 use crate::uri::{Reference, reference_to};
+use flt_files::UnreadFile;
 use json::Writer;
 use std::alloc::{AllocError, Global};
-
-/// A file that isn't read.
-#[derive(Drop)]
-pub struct UnreadFile {
-    pub name: String,
-    /// Why it isn't read.
-    pub why: String,
-    /// How to fix that.
-    pub help: &'static str,
-}
 
 fn put_why(writer: &mut Writer, file: &UnreadFile) -> Result<(), AllocError>
     ensures { Adds result writer.old writer.new (spec.reason (string_bytes file.now.why)) }

@@ -2,9 +2,9 @@
 
 ghost use Rattle.std.specs.Prelude.{◌≡◌, IfOk};
 ghost use Rattle.flt_explain_forms.specs.Warned as spec;
-ghost use Rattle.flt_explain_details.specs.Reports.{IsJudged};
+ghost use Rattle.flt_explain_texts.specs.Reports.{IsJudged};
 
-use flt_explain_details::{Source, TextJudgement};
+use flt_explain_texts::{Source, TextJudgement};
 use flt_explain_warning_details::{WarningDetail, warned_status, warning_details};
 use flt_explain_warnings::AllowedKinds;
 use sqlite_items::Items;

@@ -1,5 +1,6 @@
 pub mod Declared
 pub mod Folds
+pub mod Letters
 pub mod Nearer
 pub mod Placed
 pub mod Rare

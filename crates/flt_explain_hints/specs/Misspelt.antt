@@ -2,7 +2,7 @@
 use Rattle.std.specs.Prelude.{ℕ, ◌/◌, Bool, true, false, ◌&&◌, List, [], ◌∷◌, Option, Some}
 use Rattle.std.specs.Prelude.{None, if◌then◌else◌, length, min, nat_le, nat_lt, take}
 use Rattle.std.specs.Char.{eq_ignore_ascii_case}
-use Rattle.flt_explain_nearest.specs.Nearest.{distance}
+use Rattle.flt_explain_hints.specs.Nearness.{distance}
 use Rattle.flt_syntax.specs.Vocabulary.{vocabulary}
 use Rattle.flt_syntax.specs.declared.token.Kind.{Kind}
 use Rattle.flt_tree.specs.Names.{Text}

@@ -1,9 +1,9 @@
--- Which word is meant where another one stands. This project's own rule; how many letters differ is flt_explain_nearest's.
+-- Which word is meant where another one stands. This project's own rule; how many letters differ is said by Nearness.
 use Rattle.std.specs.Prelude.{ℕ, ◌/◌, max, ◌++◌, List, Option, None, drop, if◌then◌else◌, length, map, nat_eq, codes}
 use Rattle.std.specs.Borrow.{Bor}
 use Rattle.std.specs.List.{fold, starts_with}
-use Rattle.flt_explain_nearest.specs.Nearest.{distance, nearer}
-use Rattle.flt_explain_nearest.specs.declared.nearest.Nearest.{Nearest}
+use Rattle.flt_explain_hints.specs.Nearness.{distance, nearer}
+use Rattle.flt_explain_hints.specs.declared.nearness.Nearest.{Nearest}
 use Rattle.flt_tree.specs.Names.{Text}
 use Rattle.flt_explain_hints.specs.declared.choices.Choices.{Choices}
 use Rattle.flt_explain_hints.specs.declared.choices.ExpectedWord.{ExpectedWord}

@@ -6,7 +6,7 @@ ghost use Rattle.flt_explain_hints.specs.Misspelt as spec;
 use crate::absences::{
     Absence, contents, contexts, locks, operations, queueing, surroundings, waits,
 };
-use flt_explain_nearest::distance;
+use crate::nearness::distance;
 use flt_syntax::{Kind, keywords};
 use std::alloc::{AllocError, Global};
 

@@ -5,7 +5,7 @@ ghost use Rattle.std.specs.List.{fold};
 ghost use Rattle.flt_explain_hints.specs.Nearest as spec;
 
 use crate::choices::{Choices, ExpectedWord};
-use flt_explain_nearest::Nearest;
+use crate::nearness::Nearest;
 use std::alloc::{AllocError, Global};
 
 /// The number of letters of a word that count: those after the prefix that all final statuses share.

@@ -57,37 +57,15 @@ is_code name = is_among rules name || (is_among warnings name || (is_among viola
 abbrev pub is_word : List ℕ → Bool
 is_word name = is_among calls name || (is_among lock_calls name || is_among statuses name)
 
--- the same with a small letter
-abbrev pub small_rules : List (List ℕ)
-small_rules =
-    codes "r01" ∷ codes "r02" ∷ codes "r03" ∷ codes "r04" ∷ codes "r05" ∷ codes "r06" ∷ codes "r07" ∷ codes "r08"
-    ∷ codes "r09" ∷ codes "r10" ∷ codes "r11" ∷ codes "r12" ∷ codes "r13" ∷ codes "r14" ∷ codes "r15" ∷ []
-
-abbrev pub small_warnings : List (List ℕ)
-small_warnings =
-    codes "w00" ∷ codes "w01" ∷ codes "w02" ∷ codes "w03" ∷ codes "w04" ∷ codes "w05" ∷ codes "w06" ∷ codes "w07" ∷ []
-
-abbrev pub small_violations : List (List ℕ)
-small_violations =
-    codes "v1" ∷ codes "v2" ∷ codes "v3" ∷ codes "v4" ∷ codes "v5" ∷ codes "v6" ∷ codes "v7" ∷ codes "v8" ∷ []
-
-abbrev pub small_faults : List (List ℕ)
-small_faults =
-    codes "e01" ∷ codes "e02" ∷ codes "e03" ∷ codes "e04" ∷ codes "e05" ∷ codes "e06" ∷ codes "e07" ∷ codes "e08" ∷ []
-
-abbrev pub is_small_code : List ℕ → Bool
-is_small_code name =
-    is_among small_rules name || (is_among small_warnings name || (is_among small_violations name || is_among small_faults name))
-
--- a page has this name
-unfoldable pub has_page : List ℕ → Bool
-has_page name = is_small_code name || (is_code name || is_word name)
-
 -- a name with a capital letter first
 abbrev pub capital : List ℕ → List ℕ
 capital [] = []
 capital (c ∷ cs) = to_ascii_uppercase c ∷ cs
 
+-- a page has this name; the letter before a number may be a small one
+unfoldable pub has_page : List ℕ → Bool
+has_page name = is_code (capital name) || is_word name
+
 -- what the page of a name begins with
 abbrev pub title : List ℕ → List ℕ
-title name = if is_small_code name then capital name else name
+title name = if is_code (capital name) then capital name else name

@@ -1,86 +1,86 @@
 //! The pages, by their names.
 
 ghost use Rattle.std.specs.Io.{StartsWith};
-ghost use Rattle.std.specs.Prelude.{◌≡◌, ◌||◌, IfSome, is_some};
+ghost use Rattle.std.specs.Prelude.{◌≡◌, ◌∷◌, IfSome, is_some};
 ghost use Rattle.flt_explain_pages.specs.Pages as spec;
 
 use crate::{calls, faults, rules, statuses, violations, warnings};
 
-/// The page of a rule.
-fn rule_page(name: &str) -> Option<&'static str>
-    ensures known { is_some result ≡ spec.is_among spec.rules name.now }
-    ensures begins { IfSome result (λ found. StartsWith found.now name.now) }
+/// The page of the rule of a number, the part of the name after the letter.
+fn rule_page(number: &[u8]) -> Option<&'static str>
+    ensures known { is_some result ≡ spec.is_among spec.rules (82 ∷ number.now) }
+    ensures begins { IfSome result (λ found. StartsWith found.now (82 ∷ number.now)) }
 {
-    match name {
-        "R01" => Some(rules::R01),
-        "R02" => Some(rules::R02),
-        "R03" => Some(rules::R03),
-        "R04" => Some(rules::R04),
-        "R05" => Some(rules::R05),
-        "R06" => Some(rules::R06),
-        "R07" => Some(rules::R07),
-        "R08" => Some(rules::R08),
-        "R09" => Some(rules::R09),
-        "R10" => Some(rules::R10),
-        "R11" => Some(rules::R11),
-        "R12" => Some(rules::R12),
-        "R13" => Some(rules::R13),
-        "R14" => Some(rules::R14),
-        "R15" => Some(rules::R15),
+    match number {
+        b"01" => Some(rules::R01),
+        b"02" => Some(rules::R02),
+        b"03" => Some(rules::R03),
+        b"04" => Some(rules::R04),
+        b"05" => Some(rules::R05),
+        b"06" => Some(rules::R06),
+        b"07" => Some(rules::R07),
+        b"08" => Some(rules::R08),
+        b"09" => Some(rules::R09),
+        b"10" => Some(rules::R10),
+        b"11" => Some(rules::R11),
+        b"12" => Some(rules::R12),
+        b"13" => Some(rules::R13),
+        b"14" => Some(rules::R14),
+        b"15" => Some(rules::R15),
         _ => None,
     }
 }
 
-/// The page of a warning.
-fn warning_page(name: &str) -> Option<&'static str>
-    ensures known { is_some result ≡ spec.is_among spec.warnings name.now }
-    ensures begins { IfSome result (λ found. StartsWith found.now name.now) }
+/// The page of the warning of a number, the part of the name after the letter.
+fn warning_page(number: &[u8]) -> Option<&'static str>
+    ensures known { is_some result ≡ spec.is_among spec.warnings (87 ∷ number.now) }
+    ensures begins { IfSome result (λ found. StartsWith found.now (87 ∷ number.now)) }
 {
-    match name {
-        "W00" => Some(warnings::W00),
-        "W01" => Some(warnings::W01),
-        "W02" => Some(warnings::W02),
-        "W03" => Some(warnings::W03),
-        "W04" => Some(warnings::W04),
-        "W05" => Some(warnings::W05),
-        "W06" => Some(warnings::W06),
-        "W07" => Some(warnings::W07),
+    match number {
+        b"00" => Some(warnings::W00),
+        b"01" => Some(warnings::W01),
+        b"02" => Some(warnings::W02),
+        b"03" => Some(warnings::W03),
+        b"04" => Some(warnings::W04),
+        b"05" => Some(warnings::W05),
+        b"06" => Some(warnings::W06),
+        b"07" => Some(warnings::W07),
         _ => None,
     }
 }
 
-/// The page of a violation.
-fn violation_page(name: &str) -> Option<&'static str>
-    ensures known { is_some result ≡ spec.is_among spec.violations name.now }
-    ensures begins { IfSome result (λ found. StartsWith found.now name.now) }
+/// The page of the violation of a number, the part of the name after the letter.
+fn violation_page(number: &[u8]) -> Option<&'static str>
+    ensures known { is_some result ≡ spec.is_among spec.violations (86 ∷ number.now) }
+    ensures begins { IfSome result (λ found. StartsWith found.now (86 ∷ number.now)) }
 {
-    match name {
-        "V1" => Some(violations::V1),
-        "V2" => Some(violations::V2),
-        "V3" => Some(violations::V3),
-        "V4" => Some(violations::V4),
-        "V5" => Some(violations::V5),
-        "V6" => Some(violations::V6),
-        "V7" => Some(violations::V7),
-        "V8" => Some(violations::V8),
+    match number {
+        b"1" => Some(violations::V1),
+        b"2" => Some(violations::V2),
+        b"3" => Some(violations::V3),
+        b"4" => Some(violations::V4),
+        b"5" => Some(violations::V5),
+        b"6" => Some(violations::V6),
+        b"7" => Some(violations::V7),
+        b"8" => Some(violations::V8),
         _ => None,
     }
 }
 
-/// The page of a fault of a text.
-fn fault_page(name: &str) -> Option<&'static str>
-    ensures known { is_some result ≡ spec.is_among spec.faults name.now }
-    ensures begins { IfSome result (λ found. StartsWith found.now name.now) }
+/// The page of the fault of a text of a number, the part of the name after the letter.
+fn fault_page(number: &[u8]) -> Option<&'static str>
+    ensures known { is_some result ≡ spec.is_among spec.faults (69 ∷ number.now) }
+    ensures begins { IfSome result (λ found. StartsWith found.now (69 ∷ number.now)) }
 {
-    match name {
-        "E01" => Some(faults::E01),
-        "E02" => Some(faults::E02),
-        "E03" => Some(faults::E03),
-        "E04" => Some(faults::E04),
-        "E05" => Some(faults::E05),
-        "E06" => Some(faults::E06),
-        "E07" => Some(faults::E07),
-        "E08" => Some(faults::E08),
+    match number {
+        b"01" => Some(faults::E01),
+        b"02" => Some(faults::E02),
+        b"03" => Some(faults::E03),
+        b"04" => Some(faults::E04),
+        b"05" => Some(faults::E05),
+        b"06" => Some(faults::E06),
+        b"07" => Some(faults::E07),
+        b"08" => Some(faults::E08),
         _ => None,
     }
 }
@@ -160,127 +160,28 @@ fn word_page(name: &str) -> Option<&'static str>
     status_page(name)
 }
 
-/// The page of a code: of a rule, a warning, a violation or a fault of a text.
+/// The page of a code, by its letter and its number: of a rule, a warning, a violation or a fault of a text.
+fn numbered_page(letter: u8, number: &[u8]) -> Option<&'static str>
+    ensures known { is_some result ≡ spec.is_code (letter ∷ number.now) }
+    ensures begins { IfSome result (λ found. StartsWith found.now (letter ∷ number.now)) }
+{
+    match letter {
+        b'R' => rule_page(number),
+        b'W' => warning_page(number),
+        b'V' => violation_page(number),
+        b'E' => fault_page(number),
+        _ => None,
+    }
+}
+
+/// The page of a code, whose letter may be a small one.
 fn code_page(name: &str) -> Option<&'static str>
-    ensures known { is_some result ≡ spec.is_code name.now }
-    ensures begins { IfSome result (λ found. StartsWith found.now name.now) }
-{
-    if let Some(found) = rule_page(name) {
-        return Some(found);
-    }
-    if let Some(found) = warning_page(name) {
-        return Some(found);
-    }
-    if let Some(found) = violation_page(name) {
-        return Some(found);
-    }
-    fault_page(name)
-}
-
-/// The page of a rule, with a small letter.
-fn small_rule_page(name: &str) -> Option<&'static str>
-    ensures known { is_some result ≡ spec.is_among spec.small_rules name.now }
+    ensures known { is_some result ≡ spec.is_code (spec.capital name.now) }
     ensures begins { IfSome result (λ found. StartsWith found.now (spec.capital name.now)) }
 {
-    match name {
-        "r01" => Some(rules::R01),
-        "r02" => Some(rules::R02),
-        "r03" => Some(rules::R03),
-        "r04" => Some(rules::R04),
-        "r05" => Some(rules::R05),
-        "r06" => Some(rules::R06),
-        "r07" => Some(rules::R07),
-        "r08" => Some(rules::R08),
-        "r09" => Some(rules::R09),
-        "r10" => Some(rules::R10),
-        "r11" => Some(rules::R11),
-        "r12" => Some(rules::R12),
-        "r13" => Some(rules::R13),
-        "r14" => Some(rules::R14),
-        "r15" => Some(rules::R15),
-        _ => None,
-    }
-}
-
-/// The page of a warning, with a small letter.
-fn small_warning_page(name: &str) -> Option<&'static str>
-    ensures known { is_some result ≡ spec.is_among spec.small_warnings name.now }
-    ensures begins { IfSome result (λ found. StartsWith found.now (spec.capital name.now)) }
-{
-    match name {
-        "w00" => Some(warnings::W00),
-        "w01" => Some(warnings::W01),
-        "w02" => Some(warnings::W02),
-        "w03" => Some(warnings::W03),
-        "w04" => Some(warnings::W04),
-        "w05" => Some(warnings::W05),
-        "w06" => Some(warnings::W06),
-        "w07" => Some(warnings::W07),
-        _ => None,
-    }
-}
-
-/// The page of a violation, with a small letter.
-fn small_violation_page(name: &str) -> Option<&'static str>
-    ensures known { is_some result ≡ spec.is_among spec.small_violations name.now }
-    ensures begins { IfSome result (λ found. StartsWith found.now (spec.capital name.now)) }
-{
-    match name {
-        "v1" => Some(violations::V1),
-        "v2" => Some(violations::V2),
-        "v3" => Some(violations::V3),
-        "v4" => Some(violations::V4),
-        "v5" => Some(violations::V5),
-        "v6" => Some(violations::V6),
-        "v7" => Some(violations::V7),
-        "v8" => Some(violations::V8),
-        _ => None,
-    }
-}
-
-/// The page of a fault of a text, with a small letter.
-fn small_fault_page(name: &str) -> Option<&'static str>
-    ensures known { is_some result ≡ spec.is_among spec.small_faults name.now }
-    ensures begins { IfSome result (λ found. StartsWith found.now (spec.capital name.now)) }
-{
-    match name {
-        "e01" => Some(faults::E01),
-        "e02" => Some(faults::E02),
-        "e03" => Some(faults::E03),
-        "e04" => Some(faults::E04),
-        "e05" => Some(faults::E05),
-        "e06" => Some(faults::E06),
-        "e07" => Some(faults::E07),
-        "e08" => Some(faults::E08),
-        _ => None,
-    }
-}
-
-/// The page of a rule, a warning, a violation or a fault, with a small letter.
-fn small_page(name: &str) -> Option<&'static str>
-    ensures known { is_some result ≡ spec.is_small_code name.now }
-    ensures begins { IfSome result (λ found. StartsWith found.now (spec.capital name.now)) }
-{
-    if let Some(found) = small_rule_page(name) {
-        return Some(found);
-    }
-    if let Some(found) = small_warning_page(name) {
-        return Some(found);
-    }
-    if let Some(found) = small_violation_page(name) {
-        return Some(found);
-    }
-    small_fault_page(name)
-}
-
-/// The page of exactly this name.
-fn named_page(name: &str) -> Option<&'static str>
-    ensures known { is_some result ≡ spec.is_code name.now || spec.is_word name.now }
-    ensures begins { IfSome result (λ found. StartsWith found.now name.now) }
-{
-    match code_page(name) {
-        Some(found) => Some(found),
-        None => word_page(name),
+    match name.as_bytes() {
+        [letter, number @ ..] => numbered_page(letter.to_ascii_uppercase(), number),
+        [] => None,
     }
 }
 
@@ -292,8 +193,8 @@ pub fn page(name: &str) -> Option<&'static str>
     ensures known { is_some result ≡ spec.has_page name.now }
     ensures begins { IfSome result (λ found. StartsWith found.now (spec.title name.now)) }
 {
-    match small_page(name) {
+    match code_page(name) {
         Some(found) => Some(found),
-        None => named_page(name),
+        None => word_page(name),
     }
 }

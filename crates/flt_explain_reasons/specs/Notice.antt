@@ -7,7 +7,7 @@ use Rattle.flt_cert.specs.Spelling as certificates
 use Rattle.flt_cert.specs.declared.cert.Cert.{Cert}
 use Rattle.flt_model.specs.JournalText as journals
 use Rattle.flt_explain_reasons.specs.declared.notice.Kind.{Kind}
-use Rattle.flt_stack_prepare.specs.ScriptText as scripts
+use Rattle.flt_stack_script.specs.ScriptText as scripts
 use Rattle.flt_explain_reasons.specs.declared.notice.Kind.TheVariants.{Certificate, Journal, Script}
 use Rattle.flt_explain_reasons.specs.declared.notice.Notice.{Notice}
 use Rattle.flt_explain_reasons.specs.declared.notice.Notice.TheVariants.{Whole, Malformed}

@@ -1,6 +1,6 @@
 //! The word that is meant by a misspelt one.
 
-use flt_explain_nearest::Nearest;
+use flt_explain_hints::Nearest;
 use std::alloc::{AllocError, Global};
 
 /// The greatest number of letters of a word that is compared with others.

@@ -4,14 +4,14 @@ ghost use Rattle.std.specs.Prelude.{◌≡◌, IfOk, MatchResult, option_map};
 ghost use Rattle.flt_cert.specs.Spelling.{IsFaultOf};
 ghost use Rattle.flt_model.specs.Program.{filters_of};
 ghost use Rattle.flt_explain_reasons.specs.Notice as spec;
-ghost use Rattle.flt_stack_prepare.specs.ScriptText.{Stack};
+ghost use Rattle.flt_stack_script.specs.ScriptText.{Stack};
 
 use crate::notice::{Kind, Notice};
 use crate::telling::reason;
 use crate::{certificates, journals, scripts};
 use flt_cert::CertFault;
 use flt_model::{JournalFault, ReadFault, Source};
-use flt_stack_prepare::ScriptFault;
+use flt_stack_script::ScriptFault;
 use flt_tree::Tree;
 use std::alloc::{AllocError, Global};
 
@@ -143,7 +143,7 @@ fn of_script<'a>(
 ) -> Result<Notice<'a>, AllocError>
     ensures { IfOk result (spec.IsNotice (option_map (λ trees. filters_of trees.now) stack.entry) Kind.Script input.now) }
 {
-    match flt_stack_prepare::read(alloc, stack, input) {
+    match flt_stack_script::read(alloc, stack, input) {
         Ok(script) => Ok(Notice::Whole(Kind::Script, script.commands().len())),
         Err(ScriptFault::Line(line)) => {
             let trouble = scripts::trouble(stack, input, line);

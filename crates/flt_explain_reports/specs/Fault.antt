@@ -12,8 +12,8 @@ use Rattle.flt_places.specs.declared.places.Site.{Site}
 use Rattle.flt_syntax.specs.declared.token.Token.{Token}
 use Rattle.flt_tree.specs.Names.{Text}
 use Rattle.flt_tree.specs.declared.filter.Position.{Position}
-use Rattle.flt_explain_details.specs.Closing.{fault_name}
-use Rattle.flt_explain_details.specs.Page.{line_told, shown}
+use Rattle.flt_explain_texts.specs.Closing.{fault_name}
+use Rattle.flt_explain_texts.specs.Page.{line_told, shown}
 use Rattle.flt_explain_reports.specs.Excerpts.{excerpt}
 use Rattle.flt_explain_reports.specs.Heading.{at_file_place, heading, name_at}
 use Rattle.flt_explain_reports.specs.Marks.{drawn, width}

@@ -5,19 +5,19 @@ use Rattle.std.specs.List.{slice_split}
 use Rattle.flt_explain.specs.declared.finding.Finding.{Finding}
 use Rattle.flt_graph.specs.Graph.{span_at}
 use Rattle.flt_graph.specs.declared.graph.Graph.{Graph}
-use Rattle.flt_explain_ways.specs.declared.grouping.TracedFinding.{TracedFinding}
+use Rattle.flt_explain_origins.specs.declared.grouping.TracedFinding.{TracedFinding}
 use Rattle.flt_places.specs.Files.{file_at, file_line}
 use Rattle.flt_places.specs.Places.{place_in}
 use Rattle.flt_places.specs.declared.files.Files.{Files}
 use Rattle.flt_tree.specs.Names.{Text}
 use Rattle.flt_tree.specs.declared.filter.Position.{Position}
-use Rattle.flt_explain_ways.specs.declared.answer.Answer.{Answer}
-use Rattle.flt_explain_ways.specs.declared.answer.Answer.TheVariants as answer
-use Rattle.flt_explain_details.specs.Page.{line_told, shown}
+use Rattle.flt_explain_origins.specs.declared.answer.Answer.{Answer}
+use Rattle.flt_explain_origins.specs.declared.answer.Answer.TheVariants as answer
+use Rattle.flt_explain_texts.specs.Page.{line_told, shown}
 use Rattle.flt_rules.specs.Rule.{rule_name}
-use Rattle.flt_explain_details.specs.Tracing.{other_way, way_of}
-use Rattle.flt_explain_details.specs.declared.study.Words.{Words}
-use Rattle.flt_explain_details.specs.declared.tracing.FindingTrace.{FindingTrace}
+use Rattle.flt_explain_origins.specs.Trace.{other_way, way_of}
+use Rattle.flt_explain_advice.specs.declared.words.Words.{Words}
+use Rattle.flt_explain_origins.specs.declared.trace.FindingTrace.{FindingTrace}
 use Rattle.flt_explain_reports.specs.Heading.{at_file_place, heading, name_at}
 use Rattle.flt_explain_reports.specs.Indents.{headed}
 use Rattle.flt_explain_reports.specs.Shown.{shown_lines}

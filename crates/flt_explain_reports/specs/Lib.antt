@@ -1,5 +1,4 @@
 pub mod Colours
-pub mod Covering
 pub mod Excerpts
 pub mod Fault
 pub mod Finding
@@ -9,7 +8,6 @@ pub mod Line
 pub mod MarkOrder
 pub mod MarkWords
 pub mod Marks
-pub mod Reported
 pub mod Reports
 pub mod Shown
 pub mod WarningReport

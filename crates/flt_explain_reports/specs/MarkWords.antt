@@ -9,21 +9,21 @@ use Rattle.flt_graph.specs.Instruction.{roles}
 use Rattle.flt_graph.specs.declared.graph.Graph.{Graph}
 use Rattle.flt_graph.specs.declared.instruction.Instruction.{Instruction}
 use Rattle.flt_graph.specs.declared.instruction.Instruction.TheVariants as instruction
-use Rattle.flt_explain_ways.specs.declared.facts.Fact.{Fact}
-use Rattle.flt_explain_ways.specs.declared.facts.Fact.TheVariants as fact
-use Rattle.flt_explain_ways.specs.declared.facts.VariableStatus.TheVariants as is
+use Rattle.flt_explain_origins.specs.declared.facts.Fact.{Fact}
+use Rattle.flt_explain_origins.specs.declared.facts.Fact.TheVariants as fact
+use Rattle.flt_explain_origins.specs.declared.facts.VariableStatus.TheVariants as is
 use Rattle.flt_rules.specs.declared.call.Call.{Call}
 use Rattle.flt_rules.specs.declared.call.Call.TheVariants as call
 use Rattle.flt_rules.specs.declared.rule.Rule.{Rule}
 use Rattle.flt_rules.specs.declared.rule.Rule.TheVariants.{R12}
 use Rattle.flt_tree.specs.Names.{Text}
-use Rattle.flt_explain_ways.specs.declared.answer.Answer.{Answer}
-use Rattle.flt_explain_ways.specs.declared.answer.Step.{Step}
-use Rattle.flt_explain_ways.specs.declared.answer.Way.{Way}
-use Rattle.flt_explain_details.specs.Branches.{step_call_outcome}
-use Rattle.flt_explain_details.specs.Page.{shown}
-use Rattle.flt_explain_details.specs.Subjects.{fact_word, state_at_end}
-use Rattle.flt_explain_details.specs.Tracing.{other_way, way_of}
+use Rattle.flt_explain_origins.specs.declared.answer.Answer.{Answer}
+use Rattle.flt_explain_origins.specs.declared.answer.Step.{Step}
+use Rattle.flt_explain_origins.specs.declared.answer.Way.{Way}
+use Rattle.flt_explain_advice.specs.Branches.{step_call_outcome}
+use Rattle.flt_explain_texts.specs.Page.{shown}
+use Rattle.flt_explain_advice.specs.Subjects.{fact_word, state_at_end}
+use Rattle.flt_explain_origins.specs.Trace.{other_way, way_of}
 use Rattle.flt_explain_reports.specs.declared.mark_words.Sign.{Sign}
 use Rattle.flt_explain_reports.specs.declared.mark_words.Sign.TheVariants as sign
 

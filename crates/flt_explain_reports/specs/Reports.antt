@@ -1,15 +1,15 @@
 -- The reports of a text. This project's own program.
 use Rattle.std.specs.Prelude.{◌≡◌, ◌==◌, Bool, false, true, if◌then◌else◌, List, [], ◌∷◌, ◌++◌, codes, length, slice_get}
 use Rattle.flt_graph.specs.declared.graph.Graph.{Graph}
-use Rattle.flt_explain_ways.specs.declared.grouping.Group.{Group}
+use Rattle.flt_explain_origins.specs.declared.grouping.Group.{Group}
 use Rattle.flt_places.specs.declared.files.Files.{Files}
 use Rattle.flt_places.specs.declared.files.SourceFile.{SourceFile}
 use Rattle.flt_tree.specs.Names.{Text}
 use Rattle.flt_tree.specs.declared.filter.Filter.{Filter}
-use Rattle.flt_explain_details.specs.Page.{shown}
-use Rattle.flt_explain_details.specs.Words.{AreWords}
-use Rattle.flt_explain_details.specs.declared.study.Words.{Words}
-use Rattle.flt_explain_details.specs.declared.tracing.Traces.{Traces}
+use Rattle.flt_explain_texts.specs.Page.{shown}
+use Rattle.flt_explain_advice.specs.Words.{AreWords}
+use Rattle.flt_explain_advice.specs.declared.words.Words.{Words}
+use Rattle.flt_explain_ways.specs.declared.tracing.Traces.{Traces}
 use Rattle.flt_explain_reports.specs.Finding.{finding_report}
 
 -- ---- of a text in which something is found

@@ -3,18 +3,18 @@ use Rattle.std.specs.Prelude.{ℕ, Bool, List, [], ◌∷◌, ◌++◌, Option, 
 use Rattle.flt_explain.specs.declared.finding.Finding.{Finding}
 use Rattle.flt_graph.specs.Graph.{span_at}
 use Rattle.flt_graph.specs.declared.graph.Graph.{Graph}
-use Rattle.flt_explain_ways.specs.declared.facts.Fact.{Fact}
-use Rattle.flt_explain_ways.specs.declared.origin.Cause.{Cause}
-use Rattle.flt_explain_ways.specs.declared.origin.Cause.TheVariants.{Entry, Made}
-use Rattle.flt_explain_ways.specs.declared.origin.Origin.{Origin}
+use Rattle.flt_explain_origins.specs.declared.facts.Fact.{Fact}
+use Rattle.flt_explain_origins.specs.declared.origin.Cause.{Cause}
+use Rattle.flt_explain_origins.specs.declared.origin.Cause.TheVariants.{Entry, Made}
+use Rattle.flt_explain_origins.specs.declared.origin.Origin.{Origin}
 use Rattle.flt_places.specs.Files.{file_at, file_line}
 use Rattle.flt_places.specs.Places.{line_of, site_of}
 use Rattle.flt_places.specs.declared.files.Files.{Files}
 use Rattle.flt_tree.specs.Names.{Text}
-use Rattle.flt_explain_ways.specs.declared.answer.Answer.{Answer}
-use Rattle.flt_explain_ways.specs.declared.answer.Way.{Way}
-use Rattle.flt_explain_details.specs.Tracing.{other_way, way_of}
-use Rattle.flt_explain_details.specs.declared.tracing.FindingTrace.{FindingTrace}
+use Rattle.flt_explain_origins.specs.declared.answer.Answer.{Answer}
+use Rattle.flt_explain_origins.specs.declared.answer.Way.{Way}
+use Rattle.flt_explain_origins.specs.Trace.{other_way, way_of}
+use Rattle.flt_explain_origins.specs.declared.trace.FindingTrace.{FindingTrace}
 use Rattle.flt_explain_reports.specs.Excerpts.{excerpt}
 use Rattle.flt_explain_reports.specs.MarkOrder.{all_placed, greatest_line}
 use Rattle.flt_explain_reports.specs.MarkWords.{mark_told}

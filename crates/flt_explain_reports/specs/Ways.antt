@@ -3,10 +3,10 @@ use Rattle.std.specs.Prelude.{ℕ, List, [], ◌∷◌, ◌++◌, Option, Some, 
 use Rattle.flt_graph.specs.Graph.{line_at}
 use Rattle.flt_graph.specs.declared.graph.Graph.{Graph}
 use Rattle.flt_tree.specs.Names.{Text}
-use Rattle.flt_explain_ways.specs.declared.answer.Step.{Step}
-use Rattle.flt_explain_ways.specs.declared.answer.Way.{Way}
-use Rattle.flt_explain_details.specs.Branches.{branch_at, step_outcome}
-use Rattle.flt_explain_details.specs.Page.{line_told}
+use Rattle.flt_explain_origins.specs.declared.answer.Step.{Step}
+use Rattle.flt_explain_origins.specs.declared.answer.Way.{Way}
+use Rattle.flt_explain_advice.specs.Branches.{branch_at, step_outcome}
+use Rattle.flt_explain_texts.specs.Page.{line_told}
 use Rattle.flt_places.specs.declared.files.Files.{Files}
 use Rattle.flt_explain_reports.specs.Indents.{headed}
 

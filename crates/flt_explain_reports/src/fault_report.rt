@@ -1,14 +1,14 @@
 //! The report of a text that doesn't parse.
 
 ghost use Rattle.std.specs.Prelude.{◌≡◌, ◌++◌, ◌∷◌, [], IfOk};
-ghost use Rattle.flt_explain_details.specs.Page.{Writes};
+ghost use Rattle.flt_explain_texts.specs.Page.{Writes};
 ghost use Rattle.flt_explain_reports.specs.Fault as spec;
 
 use crate::excerpts::excerpt_of;
 use crate::heading::{name_at, tell_file_place, tell_heading};
 use crate::marks::{Drawing, Stroke};
-use flt_explain_details::{Page, Source, fault_name, line_words};
 use flt_explain_hints::{FaultExplanation, Spot, Trouble, describe, tell};
+use flt_explain_texts::{Page, Source, fault_name, line_words};
 use flt_places::{Files, Lines, Site};
 use flt_tree::Position;
 use std::alloc::{AllocError, Global};

@@ -1,7 +1,7 @@
 //! The report of a finding and of the others of its group.
 
 ghost use Rattle.std.specs.Prelude.{◌≡◌, map, option_copied};
-ghost use Rattle.flt_explain_details.specs.Page.{Writes};
+ghost use Rattle.flt_explain_texts.specs.Page.{Writes};
 ghost use Rattle.flt_explain_reports.specs.Finding as spec;
 ghost use Rattle.flt_explain_reports.specs.Indents.{headed};
 
@@ -10,8 +10,9 @@ use crate::indents::begin;
 use crate::shown_lines::draw_shown;
 use crate::way_lines::tell_way;
 use flt_explain::Finding;
-use flt_explain_details::{FindingTrace, Page, Part, Scene, Words};
-use flt_explain_ways::{Answer, TracedFinding};
+use flt_explain_advice::Words;
+use flt_explain_origins::{Answer, FindingTrace, TracedFinding};
+use flt_explain_texts::{Page, Part, Scene};
 use flt_places::{Files, lines_of};
 use std::alloc::{AllocError, Global};
 

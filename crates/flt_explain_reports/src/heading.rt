@@ -1,11 +1,11 @@
 //! The first lines of reports.
 
 ghost use Rattle.std.specs.Prelude.{◌≡◌, option_copied};
-ghost use Rattle.flt_explain_details.specs.Page.{Writes};
+ghost use Rattle.flt_explain_texts.specs.Page.{Writes};
 ghost use Rattle.flt_explain_reports.specs.Heading as spec;
 
 use crate::colours::{bold, plain, red, yellow};
-use flt_explain_details::Page;
+use flt_explain_texts::Page;
 use flt_places::Files;
 use flt_tree::Position;
 use std::alloc::AllocError;

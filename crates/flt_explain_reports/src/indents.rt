@@ -1,9 +1,9 @@
 //! Lines of which the first comes after a word, and the others are indented as far.
 
-ghost use Rattle.flt_explain_details.specs.Page.{Writes};
+ghost use Rattle.flt_explain_texts.specs.Page.{Writes};
 ghost use Rattle.flt_explain_reports.specs.Indents as spec;
 
-use flt_explain_details::Page;
+use flt_explain_texts::Page;
 use std::alloc::AllocError;
 
 /// Writes the start of a line: a word, or as many blanks if another line is above.

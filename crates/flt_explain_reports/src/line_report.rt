@@ -1,12 +1,12 @@
 //! The report of a line of a file that isn't the text of a filter.
 
 ghost use Rattle.std.specs.Prelude.{◌≡◌, ◌++◌, ◌∷◌, [], IfOk};
-ghost use Rattle.flt_explain_details.specs.Page.{Writes};
+ghost use Rattle.flt_explain_texts.specs.Page.{Writes};
 ghost use Rattle.flt_explain_reports.specs.Line as spec;
 
 use crate::heading::{tell_heading, tell_place};
 use crate::marks::{Drawing, Stroke};
-use flt_explain_details::Page;
+use flt_explain_texts::Page;
 use flt_places::Site;
 use flt_tree::Position;
 use std::alloc::{AllocError, Global};

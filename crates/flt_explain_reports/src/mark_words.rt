@@ -1,13 +1,14 @@
 //! The words of the marks that show a finding.
 
 ghost use Rattle.std.specs.Prelude.{◌≡◌, ◌++◌, option_copied};
-ghost use Rattle.flt_explain_details.specs.Branches as branches;
-ghost use Rattle.flt_explain_details.specs.Page.{Writes};
+ghost use Rattle.flt_explain_advice.specs.Branches as branches;
+ghost use Rattle.flt_explain_texts.specs.Page.{Writes};
 ghost use Rattle.flt_explain_reports.specs.MarkWords as spec;
 
 use flt_explain::{Finding, Subject};
-use flt_explain_details::{FindingTrace, Page, Scene, fact_word, state_at_end, step_call_outcome};
-use flt_explain_ways::{Fact, Step, VariableStatus, Way};
+use flt_explain_advice::{fact_word, state_at_end, step_call_outcome};
+use flt_explain_origins::{Fact, FindingTrace, Step, VariableStatus, Way};
+use flt_explain_texts::{Page, Scene};
 use flt_graph::{Call, Instruction};
 use flt_rules::Rule;
 use std::alloc::AllocError;

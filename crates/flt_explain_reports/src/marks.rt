@@ -3,14 +3,14 @@
 ghost use Rattle.std.specs.Prelude.{◌≡◌, ◌+◌, ◌≤◌, drop, option_copied, take, IfOk, OnOk};
 ghost use Rattle.std.specs.Int.{is_in_range};
 ghost use Rattle.std.specs.List.{count_by};
-ghost use Rattle.flt_explain_details.specs.Page.{Writes};
+ghost use Rattle.flt_explain_texts.specs.Page.{Writes};
 ghost use Rattle.flt_places.specs.Files.{file_at, file_line};
 ghost use Rattle.flt_explain_reports.specs.Excerpts.{of_excerpt};
 ghost use Rattle.flt_explain_reports.specs.Marks as spec;
 
 use crate::colours::{blue, plain, red, yellow};
 use crate::excerpts::Excerpt;
-use flt_explain_details::Page;
+use flt_explain_texts::Page;
 use flt_places::{Files, Site};
 use std::alloc::{AllocError, Global};
 

@@ -1,15 +1,17 @@
 //! Reports of texts, part by part.
 
 ghost use Rattle.std.specs.Prelude.{◌≡◌, slice_get, IfOk};
-ghost use Rattle.flt_explain_details.specs.Page.{Writes};
+ghost use Rattle.flt_explain_texts.specs.Page.{Writes};
 ghost use Rattle.flt_explain_reports.specs.Fault.{IsFaultReport};
 ghost use Rattle.flt_explain_reports.specs.Finding.{finding_report};
 ghost use Rattle.flt_explain_reports.specs.Reports as spec;
 
 use crate::fault_report::report_fault;
 use crate::finding_report::report_finding;
-use flt_explain_details::{Page, Scene, Source, Traces, Words, words_of};
-use flt_explain_ways::Group;
+use flt_explain_advice::{Words, words_of};
+use flt_explain_origins::Group;
+use flt_explain_texts::{Page, Scene, Source};
+use flt_explain_ways::Traces;
 use flt_places::{Files, SourceFile};
 use std::alloc::{AllocError, Global};
 

@@ -1,8 +1,8 @@
 //! The lines of a file that show a finding, with marks: its point, its origin, and the point where paths meet.
 
 ghost use Rattle.std.specs.Prelude.{◌≡◌, option_copied, IfOk, OnOk};
-ghost use Rattle.flt_explain_details.specs.Tracing.{other_way, way_of};
-ghost use Rattle.flt_explain_details.specs.Page.{Writes};
+ghost use Rattle.flt_explain_origins.specs.Trace.{other_way, way_of};
+ghost use Rattle.flt_explain_texts.specs.Page.{Writes};
 ghost use Rattle.flt_explain_reports.specs.MarkOrder.{all_placed};
 ghost use Rattle.flt_explain_reports.specs.Shown as spec;
 
@@ -11,8 +11,8 @@ use crate::mark_order::{Mark, add_mark, greatest_line};
 use crate::mark_words::{Sign, tell_mark};
 use crate::marks::{Drawing, Stroke};
 use flt_explain::Finding;
-use flt_explain_details::{FindingTrace, Page, Scene};
-use flt_explain_ways::{Cause, Origin};
+use flt_explain_origins::{Cause, FindingTrace, Origin};
+use flt_explain_texts::{Page, Scene};
 use std::alloc::{AllocError, Global};
 
 // ---- which marks

@@ -1,7 +1,7 @@
 //! The report of a warning.
 
 ghost use Rattle.std.specs.Prelude.{◌≡◌, option_copied, IfOk, OnOk};
-ghost use Rattle.flt_explain_details.specs.Page.{Writes};
+ghost use Rattle.flt_explain_texts.specs.Page.{Writes};
 ghost use Rattle.flt_explain_reports.specs.MarkOrder.{all_placed};
 ghost use Rattle.flt_explain_reports.specs.WarningReport as spec;
 
@@ -10,7 +10,7 @@ use crate::finding_report::{tell_callback, tell_help, tell_note, tell_numbers};
 use crate::heading::{name_at, tell_file_place, tell_warning_heading};
 use crate::mark_order::{Mark, add_mark, greatest_line};
 use crate::marks::{Drawing, Stroke};
-use flt_explain_details::{Marks, Page};
+use flt_explain_texts::{Marks, Page};
 use flt_explain_warning_details::{RelatedPlace, WarningDetail};
 use flt_explain_warnings::Site as Point;
 use flt_places::{Files, Lines, Region, Site};

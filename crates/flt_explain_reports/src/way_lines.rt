@@ -1,13 +1,14 @@
 //! The branches of a path, in lines.
 
 ghost use Rattle.std.specs.Prelude.{option_copied};
-ghost use Rattle.flt_explain_details.specs.Page.{Writes};
+ghost use Rattle.flt_explain_texts.specs.Page.{Writes};
 ghost use Rattle.flt_explain_reports.specs.Indents.{headed};
 ghost use Rattle.flt_explain_reports.specs.Ways as spec;
 
 use crate::indents::begin;
-use flt_explain_details::{Page, Part, Scene, step_outcome, tell_branch};
-use flt_explain_ways::{Step, Way};
+use flt_explain_advice::{step_outcome, tell_branch};
+use flt_explain_origins::{Step, Way};
+use flt_explain_texts::{Page, Part, Scene};
 use std::alloc::AllocError;
 
 /// Writes the line number of a statement, its question, and the outcome.

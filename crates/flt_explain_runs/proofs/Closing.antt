@@ -16,7 +16,7 @@ use Rattle.flt_explain_reasons.specs.declared.notice.Kind.TheVariants.{Certifica
 use Rattle.flt_explain_reasons.specs.declared.notice.Notice.{Notice}
 use Rattle.flt_explain_reasons.specs.declared.notice.Notice.TheVariants.{Whole, Malformed}
 use Rattle.flt_places.specs.declared.files.Files.{Files}
-use Rattle.flt_explain_details.specs.Closing.{fault_closing, fault_in, fault_name, findings_closing, refusal_in, syntax_line}
+use Rattle.flt_explain_texts.specs.Closing.{fault_closing, fault_in, fault_name, findings_closing, refusal_in, syntax_line}
 use Rattle.flt_explain_runs.specs.Quiet.{is_quiet}
 use Rattle.flt_explain_runs.specs.Totals.{found_in, summary}
 use Rattle.flt_explain_runs.proofs.QuietLines.{Plain, plain_both, plain_decimal, quiet_number}

@@ -1,13 +1,7 @@
-pub mod Answers
 pub mod Closing
-pub mod Notes
 pub mod QuietLines
 pub mod Reports
-pub mod Runs
 pub mod Said
 pub mod Several
 pub mod ShownWarnings
-pub mod Studied
-pub mod Surveys
-pub mod Variables
 pub mod Whole

@@ -11,43 +11,43 @@ use Rattle.flt_tree.specs.declared.tree.Tree.{Tree}
 use Rattle.flt_graph.specs.declared.graph.Graph.{Graph}
 use Rattle.flt_explain.specs.declared.finding.Finding.{Finding}
 use Rattle.flt_model.specs.Program.{filters_of}
-use Rattle.flt_explain_ways.specs.declared.grouping.Group.{Group}
+use Rattle.flt_explain_origins.specs.declared.grouping.Group.{Group}
 use Rattle.flt_explain_reasons.specs.Notice as notices
 use Rattle.flt_explain_reasons.specs.declared.notice.Kind.{Kind}
 use Rattle.flt_explain_reasons.specs.declared.notice.Notice.{Notice}
-use Rattle.flt_explain_details.specs.Closing.{fault_closing, findings_closing}
-use Rattle.flt_explain_details.specs.declared.judged.TextJudgement.TheVariants.{Unread, Known as Found}
-use Rattle.flt_explain_details.specs.declared.sources.Source.{Source}
-use Rattle.flt_explain_details.specs.declared.tracing.Traces.{Traces}
+use Rattle.flt_explain_texts.specs.Closing.{fault_closing, findings_closing}
+use Rattle.flt_explain_texts.specs.declared.judged.TextJudgement.TheVariants.{Unread, Known as Found}
+use Rattle.flt_explain_texts.specs.declared.sources.Source.{Source}
+use Rattle.flt_explain_ways.specs.declared.tracing.Traces.{Traces}
 use Rattle.flt_explain_reports.specs.Fault.{IsFaultReport}
-use Rattle.flt_explain_reports.specs.Reported.{AreReportedBy, reported_of}
-use Rattle.flt_explain_reports.specs.declared.reported.ReportedFinding.{ReportedFinding}
+use Rattle.flt_explain_ways.specs.Reported.{AreReportedBy, reported_of}
+use Rattle.flt_explain_ways.specs.declared.reported.ReportedFinding.{ReportedFinding}
 use Rattle.flt_explain_warning_details.specs.Options.{warned_status}
 use Rattle.flt_explain_warning_details.specs.Orderly.{TextsWithoutCirclesAreOrderly}
 use Rattle.flt_explain_warning_details.specs.declared.detail.WarningDetail.{WarningDetail}
-use Rattle.flt_explain_runs.specs.Noted.{AreNotesOf, reported_in}
-use Rattle.flt_explain_runs.specs.Noting.{AreAllNotes}
-use Rattle.flt_explain_runs.specs.Parsed.{IsOther, IsUnread}
+use Rattle.flt_explain_outcomes.specs.Noted.{AreNotesOf, reported_in}
+use Rattle.flt_explain_outcomes.specs.Noting.{AreAllNotes}
+use Rattle.flt_explain_outcomes.specs.Parsed.{IsOther, IsUnread}
 use Rattle.flt_explain_runs.specs.Parts.{block_bytes, body_bytes, body_notes, notes_in}
 use Rattle.flt_explain_runs.specs.Printing.{IsKnownIn, IsKnownPart, IsNoticeOf, IsNoticePart, IsPart, IsUnreadPart, warned_in}
 use Rattle.flt_explain_runs.specs.Quiet.{quieted}
 use Rattle.flt_explain_runs.specs.Reported.{IsReport, stack_of}
 use Rattle.flt_explain_runs.specs.Rows.{AreAgainRows, AreRowsBy}
-use Rattle.flt_explain_runs.specs.Setters.{IsSetter}
+use Rattle.flt_explain_outcomes.specs.Setters.{IsSetter}
 use Rattle.flt_explain_runs.specs.Warnings.{ArePromised}
 use Rattle.flt_explain_runs.specs.Whole.{AreBlocks, AreReportsWithNotes, IsBlock, IsBody, IsKnownPrint, IsNoticePrint, IsUnreadPrint}
 use Rattle.flt_explain_runs.specs.Whole.{Look, one_block_more}
-use Rattle.flt_explain_runs.specs.declared.again.Setting.{Setting}
-use Rattle.flt_explain_runs.specs.declared.noted.Note.{Note}
-use Rattle.flt_explain_runs.specs.declared.noted.SetterOutcome.{SetterOutcome}
-use Rattle.flt_explain_runs.specs.declared.noted.SetterOutcome.TheVariants.{Runs, RunsNowhere}
-use Rattle.flt_explain_runs.specs.declared.noting.ParsedText.{ParsedText}
+use Rattle.flt_explain_outcomes.specs.declared.again.Setting.{Setting}
+use Rattle.flt_explain_outcomes.specs.declared.noted.Note.{Note}
+use Rattle.flt_explain_outcomes.specs.declared.noted.SetterOutcome.{SetterOutcome}
+use Rattle.flt_explain_outcomes.specs.declared.noted.SetterOutcome.TheVariants.{Runs, RunsNowhere}
+use Rattle.flt_explain_outcomes.specs.declared.noting.ParsedText.{ParsedText}
 use Rattle.flt_explain_runs.specs.declared.parts.Block.{Block}
 use Rattle.flt_explain_runs.specs.declared.parts.Body.{Body}
 use Rattle.flt_explain_runs.specs.declared.parts.RunLines.{RunLines}
 use Rattle.flt_explain_runs.specs.declared.parts.TextReport.{TextReport}
-use Rattle.flt_explain_runs.specs.declared.readings.Reading.TheVariants as reading
-use Rattle.flt_explain_runs.specs.declared.readings.StudiedText.{StudiedText}
+use Rattle.flt_explain_outcomes.specs.declared.readings.Reading.TheVariants as reading
+use Rattle.flt_explain_outcomes.specs.declared.readings.StudiedText.{StudiedText}
 use Rattle.flt_explain_runs.proofs.Closing.{quiet_fault, quiet_findings, quiet_notice}
 use Rattle.flt_explain_runs.proofs.QuietLines.{quieted_same}
 use Rattle.flt_explain_runs.proofs.Said.{said_known, said_notice, said_unread}

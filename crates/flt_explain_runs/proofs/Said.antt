@@ -7,17 +7,17 @@ use Rattle.flt_tree.specs.declared.tree.Tree.{Tree}
 use Rattle.flt_graph.specs.declared.graph.Graph.{Graph}
 use Rattle.flt_explain.specs.declared.finding.Finding.{Finding}
 use Rattle.flt_places.specs.declared.files.Files.{Files}
-use Rattle.flt_explain_ways.specs.declared.grouping.Group.{Group}
-use Rattle.flt_explain_details.specs.Closing.{fault_closing, findings_closing}
-use Rattle.flt_explain_details.specs.declared.sources.Source.{Source}
-use Rattle.flt_explain_details.specs.declared.tracing.Traces.{Traces}
+use Rattle.flt_explain_origins.specs.declared.grouping.Group.{Group}
+use Rattle.flt_explain_texts.specs.Closing.{fault_closing, findings_closing}
+use Rattle.flt_explain_texts.specs.declared.sources.Source.{Source}
+use Rattle.flt_explain_ways.specs.declared.tracing.Traces.{Traces}
 use Rattle.flt_explain_reasons.specs.Notice as notices
 use Rattle.flt_explain_warning_details.specs.declared.detail.WarningDetail.{WarningDetail}
 use Rattle.flt_explain_runs.specs.Lines.{again_line, note_line}
 use Rattle.flt_explain_runs.specs.Quiet.{is_quiet, quieted}
 use Rattle.flt_explain_runs.specs.Told.{Say, nothing, others, note}
 use Rattle.flt_explain_runs.specs.Whole.{AreBlocks, IsBody, IsKnownPrint, IsNoticePrint, IsUnreadPrint, Look, no_block, one_block_more}
-use Rattle.flt_explain_runs.specs.declared.noted.Note.{Note}
+use Rattle.flt_explain_outcomes.specs.declared.noted.Note.{Note}
 use Rattle.flt_explain_runs.proofs.Closing.{quiet_fault, quiet_findings, quiet_notice}
 use Rattle.flt_explain_runs.proofs.QuietLines.{quiet_quieted}
 

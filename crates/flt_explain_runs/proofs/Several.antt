@@ -9,32 +9,32 @@ use Rattle.std.proofs.lemmas.List.{append-nil, length-map, take-append-drop, tak
 use Rattle.flt_places.specs.declared.files.Files.{Files}
 use Rattle.flt_tree.specs.Names.{Text}
 use Rattle.flt_tree.specs.declared.tree.Tree.{Tree}
-use Rattle.flt_explain_details.specs.Reports.{texts_of}
-use Rattle.flt_explain_details.specs.declared.sources.Source.{Source}
+use Rattle.flt_explain_texts.specs.Reports.{texts_of}
+use Rattle.flt_explain_texts.specs.declared.sources.Source.{Source}
 use Rattle.flt_model.specs.Program.{filters_of}
 use Rattle.flt_explain_warning_details.specs.declared.options.WarningOptions.{WarningOptions}
-use Rattle.flt_explain_runs.specs.Noted.{AreNotesIn, no_text as notes_none}
-use Rattle.flt_explain_runs.specs.Noting.{AreNotesFor}
-use Rattle.flt_explain_runs.specs.Parsed.{AreParsed}
+use Rattle.flt_explain_outcomes.specs.Noted.{AreNotesIn, no_text as notes_none}
+use Rattle.flt_explain_outcomes.specs.Noting.{AreNotesFor}
+use Rattle.flt_explain_outcomes.specs.Parsed.{AreParsed}
 use Rattle.flt_explain_runs.specs.Parts.{notes_in, report_bytes}
 use Rattle.flt_explain_runs.specs.Printing.{ArePrinted, AreTold, HoldsBack, IsKnownPart, IsMore, IsPart, IsPrintOf, IsPutOut}
-use Rattle.flt_explain_runs.specs.Readings.{AreStudied, IsPlaced, IsStudied, known, known_in, sources_read, texts_read}
+use Rattle.flt_explain_outcomes.specs.Readings.{AreStudied, IsPlaced, IsStudied, known, known_in, sources_read, texts_read}
 use Rattle.flt_explain_runs.specs.Reported.{AreAllReports, AreFirst, AreSummed, IsAllButLast, IsCut}
 use Rattle.flt_explain_runs.specs.Reported.{none as parts_none, one_more as parts_more}
 use Rattle.flt_explain_runs.specs.Told.{Say, nothing, others}
 use Rattle.flt_explain_runs.specs.Totals.{ending, summary, with_tally}
 use Rattle.flt_explain_runs.specs.Whole.{ArePrints, AreSeveralPrinted, IsOnePrinted, IsPrintOfAll, Look, fails, no_print, parses}
-use Rattle.flt_explain_runs.specs.declared.noted.Note.{Note}
+use Rattle.flt_explain_outcomes.specs.declared.noted.Note.{Note}
 use Rattle.flt_explain_runs.specs.declared.parts.TextReport.{TextReport}
-use Rattle.flt_explain_runs.specs.declared.readings.Reading.{Reading}
-use Rattle.flt_explain_runs.specs.declared.readings.Reading.TheVariants.{Unread, Other, Known}
-use Rattle.flt_explain_runs.specs.declared.readings.StudiedText.{StudiedText}
+use Rattle.flt_explain_outcomes.specs.declared.readings.Reading.{Reading}
+use Rattle.flt_explain_outcomes.specs.declared.readings.Reading.TheVariants.{Unread, Other, Known}
+use Rattle.flt_explain_outcomes.specs.declared.readings.StudiedText.{StudiedText}
 use Rattle.flt_explain_runs.specs.declared.together.PrintedTexts.{PrintedTexts}
 use Rattle.flt_explain_runs.specs.declared.totals.Total.{Total}
 use Rattle.flt_explain_runs.proofs.Closing.{quiet_summary}
-use Rattle.flt_explain_runs.proofs.Notes.{text_more}
+use Rattle.flt_explain_outcomes.proofs.Notes.{text_more}
 use Rattle.flt_explain_runs.proofs.Said.{said_both, said_more}
-use Rattle.flt_explain_runs.proofs.Studied.{known_push, last_placed, last_studied, sources_both, sources_push, texts_push, with_last}
+use Rattle.flt_explain_outcomes.proofs.Studied.{known_push, last_placed, last_studied, sources_both, sources_push, texts_push, with_last}
 use Rattle.flt_explain_runs.proofs.Whole.{prints_more}
 
 -- ---- what is printed

@@ -3,16 +3,16 @@ use Rattle.std.proofs.Common.{inl, inr, ◌≡◌, ◌+◌, ℕ, List, [], ◌�
 use Rattle.std.proofs.lemmas.List.{append-nil}
 use Rattle.flt_places.specs.declared.files.Files.{Files}
 use Rattle.flt_tree.specs.declared.tree.Tree.{Tree}
-use Rattle.flt_explain_details.specs.declared.sources.Source.{Source}
+use Rattle.flt_explain_texts.specs.declared.sources.Source.{Source}
 use Rattle.flt_explain_runs.specs.Parts.{notes_in, report_bytes}
 use Rattle.flt_explain_runs.specs.Printing.{IsKnownPart, IsPrintOf}
-use Rattle.flt_explain_runs.specs.Readings.{IsPlaced, known}
+use Rattle.flt_explain_outcomes.specs.Readings.{IsPlaced, known}
 use Rattle.flt_explain_runs.specs.Totals.{some}
 use Rattle.flt_explain_runs.specs.Whole.{ArePrints, Look, fails, parses}
-use Rattle.flt_explain_runs.specs.declared.noted.Note.{Note}
+use Rattle.flt_explain_outcomes.specs.declared.noted.Note.{Note}
 use Rattle.flt_explain_runs.specs.declared.parts.TextReport.{TextReport}
-use Rattle.flt_explain_runs.specs.declared.readings.Reading.{Reading}
-use Rattle.flt_explain_runs.specs.declared.readings.Reading.TheVariants as reading
+use Rattle.flt_explain_outcomes.specs.declared.readings.Reading.{Reading}
+use Rattle.flt_explain_outcomes.specs.declared.readings.Reading.TheVariants as reading
 
 -- one more
 pub prints_more : (look : Look) (trees : List Tree) (files : List Files) (place : ℕ) (sources : List Source) (notes : List Note)

@@ -5,7 +5,7 @@ use Rattle.std.specs.List.{concat}
 use Rattle.flt_tree.specs.Declarations.{lock_name}
 use Rattle.flt_tree.specs.declared.filter.Filter.{Filter}
 use Rattle.flt_places.specs.declared.files.Files.{Files}
-use Rattle.flt_explain_details.specs.Page.{line_told, quoted}
+use Rattle.flt_explain_texts.specs.Page.{line_told, quoted}
 use Rattle.flt_search_deadlocks.specs.Deadlocks.{IsAnswer}
 use Rattle.flt_search_deadlocks.specs.declared.judging.Deadlock.{Deadlock}
 use Rattle.flt_search_deadlocks.specs.declared.searching.Answer.{Answer}

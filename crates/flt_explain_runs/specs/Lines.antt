@@ -14,12 +14,12 @@ use Rattle.flt_model.specs.declared.moves.Move.TheVariants as moves
 use Rattle.flt_model.specs.declared.verdict.Verdict.TheVariants as verdicts
 use Rattle.flt_model.specs.declared.verdict.Violation.{Violation}
 use Rattle.flt_search.specs.declared.judging.BreakingJournal.{BreakingJournal}
-use Rattle.flt_explain_runs.specs.declared.schedules.Schedule.{Schedule}
-use Rattle.flt_explain_runs.specs.declared.schedules.Schedule.TheVariants.{Breaks, NotWithin, Cut, NeverHanded, NeverStarted, NeverGot}
-use Rattle.flt_explain_runs.specs.Noted.{own_of, schedule_of}
-use Rattle.flt_explain_runs.specs.declared.noted.SetterOutcome.{SetterOutcome}
-use Rattle.flt_explain_runs.specs.declared.noted.SetterOutcome.TheVariants.{Runs, RunsNowhere}
-use Rattle.flt_explain_runs.specs.declared.noted.Note.{Note}
+use Rattle.flt_explain_outcomes.specs.declared.schedules.Schedule.{Schedule}
+use Rattle.flt_explain_outcomes.specs.declared.schedules.Schedule.TheVariants.{Breaks, NotWithin, Cut, NeverHanded, NeverStarted, NeverGot}
+use Rattle.flt_explain_outcomes.specs.Noted.{own_of, schedule_of}
+use Rattle.flt_explain_outcomes.specs.declared.noted.SetterOutcome.{SetterOutcome}
+use Rattle.flt_explain_outcomes.specs.declared.noted.SetterOutcome.TheVariants.{Runs, RunsNowhere}
+use Rattle.flt_explain_outcomes.specs.declared.noted.Note.{Note}
 
 -- ---- a run
 

@@ -1,7 +1,7 @@
 -- What is written of the parts of a text's report. This project's own program.
 use Rattle.std.specs.Prelude.{ℕ, List, [], ◌++◌, flat_map, string_bytes}
 use Rattle.flt_explain_runs.specs.Quiet.{quieted}
-use Rattle.flt_explain_runs.specs.declared.noted.Note.{Note}
+use Rattle.flt_explain_outcomes.specs.declared.noted.Note.{Note}
 use Rattle.flt_explain_runs.specs.declared.parts.Block.{Block}
 use Rattle.flt_explain_runs.specs.declared.parts.Body.{Body}
 use Rattle.flt_explain_runs.specs.declared.parts.Body.TheVariants.{Lines, Findings}

@@ -5,37 +5,37 @@ use Rattle.flt_tree.specs.declared.filter.Filter.{Filter}
 use Rattle.flt_tree.specs.declared.tree.Tree.{Tree}
 use Rattle.flt_model.specs.Program.{filters_of}
 use Rattle.flt_places.specs.declared.files.Files.{Files}
-use Rattle.flt_explain_ways.specs.declared.grouping.Group.{Group}
-use Rattle.flt_explain_details.specs.Reports.{name_of}
-use Rattle.flt_explain_details.specs.declared.scene.Scene.{Scene}
-use Rattle.flt_explain_details.specs.declared.sources.Source.{Source}
-use Rattle.flt_explain_details.specs.declared.tracing.Traces.{Traces}
+use Rattle.flt_explain_origins.specs.declared.grouping.Group.{Group}
+use Rattle.flt_explain_texts.specs.Reports.{name_of}
+use Rattle.flt_explain_texts.specs.declared.scene.Scene.{Scene}
+use Rattle.flt_explain_texts.specs.declared.sources.Source.{Source}
+use Rattle.flt_explain_ways.specs.declared.tracing.Traces.{Traces}
 use Rattle.flt_explain_reasons.specs.Notice as notices
 use Rattle.flt_explain_reasons.specs.declared.notice.Notice.{Notice}
 use Rattle.flt_explain_warning_details.specs.Details.{AreWarningDetails}
 use Rattle.flt_explain_warning_details.specs.declared.detail.WarningDetail.{WarningDetail}
 use Rattle.flt_explain_warning_details.specs.declared.options.WarningOptions.{WarningOptions}
-use Rattle.flt_explain_runs.specs.Noted.{AreNotesIn}
+use Rattle.flt_explain_outcomes.specs.Noted.{AreNotesIn}
 use Rattle.flt_explain_runs.specs.Notices.{AreNoticeLines}
-use Rattle.flt_explain_runs.specs.Noting.{AreNotesFor, IsParsed}
+use Rattle.flt_explain_outcomes.specs.Noting.{AreNotesFor, IsParsed}
 use Rattle.flt_explain_runs.specs.Parts.{block_bytes, body_bytes, body_notes, notes_in, report_bytes}
 use Rattle.flt_explain_runs.specs.Quiet.{quieted}
-use Rattle.flt_explain_runs.specs.Readings.{known_in, sources_read, texts_read}
+use Rattle.flt_explain_outcomes.specs.Readings.{known_in, sources_read, texts_read}
 use Rattle.flt_explain_runs.specs.Reported.{AreParts, IsAllButLast, IsReport, faults_in}
 use Rattle.flt_explain_runs.specs.Told.{Say}
 use Rattle.flt_explain_runs.specs.Totals.{with_tally}
 use Rattle.flt_explain_runs.specs.Warned.{Warned}
 use Rattle.flt_explain_runs.specs.Whole.{AreBlocks, ArePrints, IsBlock, IsBody, IsKnownPrint, IsNoticePrint}
 use Rattle.flt_explain_runs.specs.Whole.{IsUnreadPrint, Look, is_alone, warned_at}
-use Rattle.flt_explain_runs.specs.declared.noted.Note.{Note}
-use Rattle.flt_explain_runs.specs.declared.noting.ParsedText.{ParsedText}
+use Rattle.flt_explain_outcomes.specs.declared.noted.Note.{Note}
+use Rattle.flt_explain_outcomes.specs.declared.noting.ParsedText.{ParsedText}
 use Rattle.flt_explain_runs.specs.declared.parts.Block.{Block}
 use Rattle.flt_explain_runs.specs.declared.parts.Body.{Body}
 use Rattle.flt_explain_runs.specs.declared.parts.TextReport.{TextReport}
 use Rattle.flt_explain_runs.specs.declared.printing.Printer.{Printer}
-use Rattle.flt_explain_runs.specs.declared.readings.Reading.{Reading}
-use Rattle.flt_explain_runs.specs.declared.readings.Reading.TheVariants as reading
-use Rattle.flt_explain_runs.specs.declared.readings.StudiedText.{StudiedText}
+use Rattle.flt_explain_outcomes.specs.declared.readings.Reading.{Reading}
+use Rattle.flt_explain_outcomes.specs.declared.readings.Reading.TheVariants as reading
+use Rattle.flt_explain_outcomes.specs.declared.readings.StudiedText.{StudiedText}
 use Rattle.flt_explain_runs.specs.declared.together.PrintedTexts.{PrintedTexts}
 use Rattle.flt_explain_runs.specs.declared.totals.Total.{Total}
 

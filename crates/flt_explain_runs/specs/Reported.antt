@@ -1,7 +1,7 @@
 -- What is reported of files: of texts, and of certificates, journals and scripts. This project's own program.
 use Rattle.std.specs.Prelude.{◌≡◌, ◌⊎◌, ℕ, ◌+◌, List, [], ◌∷◌, ◌++◌, Option, Some, None, length, max}
 use Rattle.std.specs.Io.KnownBytes.{Appends}
-use Rattle.flt_stack_prepare.specs.ScriptText.{Stack}
+use Rattle.flt_stack_script.specs.ScriptText.{Stack}
 use Rattle.flt_tree.specs.Names.{Text}
 use Rattle.flt_tree.specs.declared.filter.Filter.{Filter}
 use Rattle.flt_tree.specs.declared.tree.Tree.{Tree}
@@ -12,20 +12,20 @@ use Rattle.flt_explain_reasons.specs.Notice as notices
 use Rattle.flt_explain_reasons.specs.declared.notice.Kind.{Kind}
 use Rattle.flt_explain_reasons.specs.declared.notice.Notice.{Notice}
 use Rattle.flt_explain_reasons.specs.declared.notice.Notice.TheVariants.{Whole, Malformed}
-use Rattle.flt_explain_details.specs.Closing as texts
-use Rattle.flt_explain_details.specs.Reports.{EndsWith, IsJudged, texts_of}
-use Rattle.flt_explain_details.specs.declared.judged.TextJudgement.{TextJudgement}
-use Rattle.flt_explain_details.specs.declared.judged.TextJudgement.TheVariants.{Unread, Known}
-use Rattle.flt_explain_details.specs.declared.sources.Source.{Source}
+use Rattle.flt_explain_texts.specs.Closing as texts
+use Rattle.flt_explain_texts.specs.Reports.{EndsWith, IsJudged, texts_of}
+use Rattle.flt_explain_texts.specs.declared.judged.TextJudgement.{TextJudgement}
+use Rattle.flt_explain_texts.specs.declared.judged.TextJudgement.TheVariants.{Unread, Known}
+use Rattle.flt_explain_texts.specs.declared.sources.Source.{Source}
 use Rattle.flt_explain_warning_details.specs.Details.{AreWarningDetails}
 use Rattle.flt_explain_warning_details.specs.Options.{warned_status}
 use Rattle.flt_explain_warning_details.specs.declared.detail.WarningDetail.{WarningDetail}
 use Rattle.flt_explain_warning_details.specs.declared.options.WarningOptions.{WarningOptions}
-use Rattle.flt_explain_runs.specs.Noted.{AreNotesIn}
-use Rattle.flt_explain_runs.specs.Parsed.{AreParsed, IsOther, IsUnread}
+use Rattle.flt_explain_outcomes.specs.Noted.{AreNotesIn}
+use Rattle.flt_explain_outcomes.specs.Parsed.{AreParsed, IsOther, IsUnread}
 use Rattle.flt_explain_runs.specs.Told.{Say}
 use Rattle.flt_explain_runs.specs.Totals.{some, summary}
-use Rattle.flt_explain_runs.specs.declared.noted.Note.{Note}
+use Rattle.flt_explain_outcomes.specs.declared.noted.Note.{Note}
 
 -- ---- one file
 

@@ -1,6 +1,6 @@
 -- What stands below the lines of a note. This project's own program.
 use Rattle.std.specs.Prelude.{◌≡◌, List, [], ◌∷◌, ◌++◌, ℕ, ◌+◌, ◌-◌, ◌^◌, ◌==◌, Bool, false}
-use Rattle.std.specs.Prelude.{true, min, Option, Some, None, codes, slice_range, string_bytes}
+use Rattle.std.specs.Prelude.{true, min, Option, Some, None, codes, string_bytes}
 use Rattle.std.specs.Fmt.{format_spec, styled_decimal}
 use Rattle.flt_places.specs.Files.{file_line}
 use Rattle.flt_places.specs.declared.files.Files.{Files}
@@ -14,17 +14,15 @@ use Rattle.flt_model.specs.declared.verdict.Verdict.TheVariants as verdicts
 use Rattle.flt_explain_timeline.specs.Text as timelines
 use Rattle.flt_explain_timeline.specs.Timelines.{IsTimeline}
 use Rattle.flt_explain_timeline.specs.declared.timeline.Timeline.{Timeline}
-use Rattle.flt_explain_runs.specs.declared.schedules.Schedule.{Schedule}
-use Rattle.flt_explain_runs.specs.declared.schedules.Schedule.TheVariants.{Breaks, NotWithin, Cut, NeverHanded, NeverStarted, NeverGot}
-use Rattle.flt_explain_runs.specs.declared.schedules.JointOutcome.{JointOutcome}
-use Rattle.flt_explain_runs.specs.declared.schedules.JointOutcome.TheVariants.{Together, Alone}
-use Rattle.flt_explain_runs.specs.Noted.{own_of, schedule_of}
-use Rattle.flt_explain_runs.specs.Setters.{IsSetter}
-use Rattle.flt_explain_runs.specs.declared.again.Setting.{Setting}
-use Rattle.flt_explain_runs.specs.declared.noted.SetterOutcome.{SetterOutcome}
-use Rattle.flt_explain_runs.specs.declared.noted.SetterOutcome.TheVariants.{Runs, RunsNowhere}
-use Rattle.flt_explain_runs.specs.declared.noted.Note.{Note}
-use Rattle.flt_explain_runs.specs.declared.setters.Setter.{Setter}
+use Rattle.flt_explain_outcomes.specs.declared.schedules.Schedule.{Schedule}
+use Rattle.flt_explain_outcomes.specs.declared.schedules.Schedule.TheVariants.{Breaks, NotWithin, Cut, NeverHanded, NeverStarted, NeverGot}
+use Rattle.flt_explain_outcomes.specs.Noted.{own_files, own_of, schedule_of}
+use Rattle.flt_explain_outcomes.specs.Setters.{IsSetter}
+use Rattle.flt_explain_outcomes.specs.declared.again.Setting.{Setting}
+use Rattle.flt_explain_outcomes.specs.declared.noted.SetterOutcome.{SetterOutcome}
+use Rattle.flt_explain_outcomes.specs.declared.noted.SetterOutcome.TheVariants.{Runs, RunsNowhere}
+use Rattle.flt_explain_outcomes.specs.declared.noted.Note.{Note}
+use Rattle.flt_explain_outcomes.specs.declared.setters.Setter.{Setter}
 
 -- ---- below the line of a note
 
@@ -39,11 +37,6 @@ abbrev pub stricter : List ℕ
 stricter =
     codes "   = note: stricter than the driver kit: this rule takes `arg` as possibly held in each callback that has one"
     ++ 10 ∷ []
-
--- the files of the filters in whose runs something came of a finding of the filter of a number: of all, or of that one alone
-abbrev pub own_files : List Files → ℕ → JointOutcome → List Files
-own_files files place (Together s) = files
-own_files files place (Alone s) = slice_range files place (place + 1)
 
 -- a journal on these filters, whose texts are in these files, of which this is said, as rows, four blanks in, below a line that says how
 -- they are read

@@ -4,9 +4,9 @@ use Rattle.flt_tree.specs.Names.{Text}
 use Rattle.flt_tree.specs.declared.tree.Tree.{Tree}
 use Rattle.flt_model.specs.Program.{filters_of}
 use Rattle.flt_explain_runs.specs.Lines.{note_line, again_line}
-use Rattle.flt_explain_runs.specs.Parsed.{AreParsed}
+use Rattle.flt_explain_outcomes.specs.Parsed.{AreParsed}
 use Rattle.flt_explain_runs.specs.Quiet.{is_quiet}
-use Rattle.flt_explain_runs.specs.declared.noted.Note.{Note}
+use Rattle.flt_explain_outcomes.specs.declared.noted.Note.{Note}
 
 -- Whole lines are printed, of which those that say what comes of findings in runs are exactly the lines of these notes, in their order:
 -- between them, and in front and behind, no line begins as one of theirs.

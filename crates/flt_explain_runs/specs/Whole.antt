@@ -6,29 +6,29 @@ use Rattle.flt_tree.specs.declared.filter.Filter.{Filter}
 use Rattle.flt_tree.specs.declared.tree.Tree.{Tree}
 use Rattle.flt_graph.specs.declared.graph.Graph.{Graph}
 use Rattle.flt_explain.specs.declared.finding.Finding.{Finding}
-use Rattle.flt_explain_ways.specs.declared.grouping.Group.{Group}
+use Rattle.flt_explain_origins.specs.declared.grouping.Group.{Group}
 use Rattle.flt_model.specs.Program.{filters_of}
 use Rattle.flt_explain_reasons.specs.Notice as notices
 use Rattle.flt_explain_reasons.specs.declared.notice.Kind.{Kind}
 use Rattle.flt_explain_reasons.specs.declared.notice.Notice.{Notice}
 use Rattle.flt_places.specs.declared.files.Files.{Files}
-use Rattle.flt_explain_details.specs.Closing.{fault_closing, findings_closing}
-use Rattle.flt_explain_details.specs.Reports.{IsKnown, name_of, texts_of}
-use Rattle.flt_explain_details.specs.declared.sources.Source.{Source}
-use Rattle.flt_explain_details.specs.declared.tracing.Traces.{Traces}
+use Rattle.flt_explain_texts.specs.Closing.{fault_closing, findings_closing}
+use Rattle.flt_explain_texts.specs.Reports.{IsKnown, name_of, texts_of}
+use Rattle.flt_explain_texts.specs.declared.sources.Source.{Source}
+use Rattle.flt_explain_ways.specs.declared.tracing.Traces.{Traces}
 use Rattle.flt_explain_reports.specs.Fault.{IsFaultReport}
-use Rattle.flt_explain_reports.specs.Reported.{AreReportedBy}
+use Rattle.flt_explain_ways.specs.Reported.{AreReportedBy}
 use Rattle.flt_explain_reports.specs.Reports.{AreLines}
-use Rattle.flt_explain_runs.specs.Schedules.{only}
+use Rattle.flt_explain_outcomes.specs.Schedules.{only}
 use Rattle.flt_explain_warning_details.specs.Details.{AreWarningDetails}
 use Rattle.flt_explain_warning_details.specs.Orderly.{PromisesOrder}
 use Rattle.flt_explain_warning_details.specs.Options.{warned_status}
 use Rattle.flt_explain_warning_details.specs.declared.detail.WarningDetail.{WarningDetail}
 use Rattle.flt_explain_warning_details.specs.declared.options.WarningOptions.{WarningOptions}
 use Rattle.flt_explain_runs.specs.Lines.{again_line, note_line}
-use Rattle.flt_explain_runs.specs.Noted.{AreNoted, reported_in}
+use Rattle.flt_explain_outcomes.specs.Noted.{AreNoted, reported_in}
 use Rattle.flt_explain_runs.specs.Notices.{AreNoticeLines, detaches}
-use Rattle.flt_explain_runs.specs.Parsed.{AreFilesOf, AreParsed, IsOther, IsUnread}
+use Rattle.flt_explain_outcomes.specs.Parsed.{AreFilesOf, AreParsed, IsOther, IsUnread}
 use Rattle.flt_explain_runs.specs.Quiet.{quieted}
 use Rattle.flt_explain_runs.specs.Reported.{faults_in, stack_of}
 use Rattle.flt_explain_runs.specs.Rows.{AreAgainRows, AreNoteRows}
@@ -36,7 +36,7 @@ use Rattle.flt_explain_runs.specs.Totals.{some, summary}
 use Rattle.flt_explain_runs.specs.Warned.{Warned}
 use Rattle.flt_explain_runs.specs.Warnings.{ArePromised}
 use Rattle.flt_explain_runs.specs.declared.explaining.Asking.{Asking}
-use Rattle.flt_explain_runs.specs.declared.noted.Note.{Note}
+use Rattle.flt_explain_outcomes.specs.declared.noted.Note.{Note}
 
 -- with colours or without, how many states the search for runs of a text goes on from at most, and which warnings are left out and
 -- whether they count

@@ -1,14 +1,14 @@
 //! The lines below the report of a circle of locks: a run to a deadlock, if one is found.
 
 ghost use Rattle.std.specs.Prelude.{◌≡◌, IfOk, Some, string_bytes};
-ghost use Rattle.flt_explain_details.specs.Page.{Writes};
+ghost use Rattle.flt_explain_texts.specs.Page.{Writes};
 ghost use Rattle.flt_explain_runs.specs.Deadlocked as spec;
 ghost use Rattle.flt_explain_runs.specs.Warned.{warned_of};
 
 use crate::lines::{journal_rows, lengths_of, plural};
 use crate::warned::WarnedText;
 use flt_explain::Subject;
-use flt_explain_details::{Page, Part, word_of};
+use flt_explain_texts::{Page, Part, word_of};
 use flt_explain_waits::BlockedActivation;
 use flt_model::{Journal, Verdict};
 use flt_order::Acquisition;

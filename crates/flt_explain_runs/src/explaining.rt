@@ -2,20 +2,18 @@
 
 ghost use Rattle.std.specs.Prelude.{◌≡◌, ◌≢◌, ◌≤◌, ◌++◌, true, false, IfOk, IfErr, OnOk, length, take};
 ghost use Rattle.std.specs.Io.KnownBytes.{Appends};
-ghost use Rattle.flt_explain_details.specs.Reports.{texts_of};
-ghost use Rattle.flt_explain_runs.specs.Noted.{AreNotes};
-ghost use Rattle.flt_explain_runs.specs.Readings.{files_by, files_read};
+ghost use Rattle.flt_explain_texts.specs.Reports.{texts_of};
+ghost use Rattle.flt_explain_outcomes.specs.Noted.{AreNotes};
+ghost use Rattle.flt_explain_outcomes.specs.Readings.{files_by, files_read};
 ghost use Rattle.flt_explain_runs.specs.Reported as spec;
 ghost use Rattle.flt_explain_runs.specs.Told.{Tells};
 ghost use Rattle.flt_explain_runs.specs.Whole.{IsPrint, look_for};
 
 use crate::fault::ExplainFault;
-use crate::noted::Note;
-use crate::noting::Stage;
 use crate::printing::Printer;
-use crate::readings::{Reading, StudiedText, read_all};
 use crate::together::PrintedTexts;
-use flt_explain_details::{Printout, Source};
+use flt_explain_outcomes::{Note, Reading, Stage, StudiedText, read_all};
+use flt_explain_texts::{Printout, Source};
 use flt_explain_warning_details::WarningOptions;
 use flt_model::Sink;
 use flt_places::Files;

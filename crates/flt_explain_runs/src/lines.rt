@@ -4,12 +4,12 @@ ghost use Rattle.std.specs.Prelude.{◌≡◌, ◌++◌, Some, IfOk, OnOk, codes
 ghost use Rattle.flt_model.specs.Verdicts.{verdict_line};
 ghost use Rattle.flt_model.specs.declared.verdict.Verdict.TheVariants.{Breaks};
 ghost use Rattle.flt_explain_runs.specs.Lines as spec;
-ghost use Rattle.flt_explain_runs.specs.Noted.{own_of, schedule_of as schedule_in};
-ghost use Rattle.flt_explain_runs.specs.Rows.{AreJournalRows, AreNoteRows, AreRunRows, own_files as own_files_of};
+ghost use Rattle.flt_explain_outcomes.specs.Noted.{schedule_of as schedule_in};
+ghost use Rattle.flt_explain_runs.specs.Rows.{AreJournalRows, AreNoteRows, AreRunRows};
 
-use crate::noted::{Note, SetterOutcome, schedule_of};
-use crate::schedules::{JointOutcome, Schedule, only};
-use crate::unset::Unset;
+use flt_explain_outcomes::{
+    Note, Schedule, SetterOutcome, Unset, own_files, own_trees, schedule_of,
+};
 use flt_explain_timeline::Timeline;
 use flt_graph::Place;
 use flt_model::{Journal, JournalEntry, Move, Verdict, Violation};
@@ -286,16 +286,6 @@ fn none_words(alloc: Global, states: u32, noted: &Note) -> Result<Vec<u8>, Alloc
 
 // ---- notes
 
-/// The trees of the filters in whose runs a finding of the filter of a number has its outcome.
-pub fn own_trees<'t>(trees: &'t [Tree], number: usize, scheduled: &JointOutcome) -> &'t [Tree]
-    ensures { result.now ≡ own_of trees.now number scheduled.now }
-{
-    match scheduled {
-        JointOutcome::Together(_) => trees,
-        JointOutcome::Alone(_) => only(trees, number),
-    }
-}
-
 /// The words of a note, given the trees of the texts that parse.
 fn note_words(
     alloc: Global,
@@ -377,21 +367,6 @@ pub(crate) fn again_line(alloc: Global, again: &SetterOutcome) -> Result<String,
 }
 
 // ---- rows
-
-/// The files of the filters in whose runs a finding has its outcome: of all filters, or of that of a number alone.
-pub fn own_files<'f>(
-    files: &'f [Files<'f>],
-    filter: usize,
-    scheduled: &JointOutcome,
-) -> &'f [Files<'f>]
-    ensures { result.now ≡ own_files_of files.now filter scheduled.now }
-{
-    match scheduled {
-        JointOutcome::Together(_) => files,
-        JointOutcome::Alone(_) if filter < files.len() => &files[filter..filter + 1],
-        JointOutcome::Alone(_) => &[],
-    }
-}
 
 /// The legend and the rows of a journal on these filters, whose texts are in these files.
 pub(crate) fn journal_rows(

@@ -4,9 +4,9 @@ ghost use Rattle.std.specs.Prelude.{◌≡◌, ◌++◌, [], OnOk, flat_map};
 ghost use Rattle.flt_explain_runs.specs.Parts as spec;
 ghost use Rattle.flt_explain_runs.specs.Quiet.{quieted};
 
-use crate::noted::Note;
 use crate::quiet::put_quiet;
 use crate::totals::Tally;
+use flt_explain_outcomes::Note;
 use sqlite_items::Items;
 use std::alloc::{AllocError, Global};
 

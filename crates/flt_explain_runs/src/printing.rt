@@ -3,37 +3,37 @@
 ghost use Rattle.std.specs.Prelude.{◌≡◌, [], IfOk, length, option_map};
 ghost use Rattle.flt_model.specs.Program.{filters_of};
 ghost use Rattle.flt_explain_runs.specs.Lines as lines_of;
-ghost use Rattle.flt_explain_runs.specs.Noted.{AreNotesOf};
-ghost use Rattle.flt_explain_runs.specs.Noting.{AreAllNotes, IsSettingFor, IsSettingOf};
-ghost use Rattle.flt_explain_runs.specs.Parsed.{IsOther, IsUnread};
+ghost use Rattle.flt_explain_outcomes.specs.Noted.{AreNotesOf};
+ghost use Rattle.flt_explain_outcomes.specs.Noting.{AreAllNotes, IsSettingFor, IsSettingOf};
+ghost use Rattle.flt_explain_outcomes.specs.Parsed.{IsOther, IsUnread};
 ghost use Rattle.flt_explain_runs.specs.Parts.{body_bytes, body_notes, notes_in};
 ghost use Rattle.flt_explain_runs.specs.Printing as spec;
-ghost use Rattle.flt_explain_runs.specs.Readings.{IsStudied, IsTreeOf};
+ghost use Rattle.flt_explain_outcomes.specs.Readings.{IsStudied, IsTreeOf};
 ghost use Rattle.flt_explain_runs.specs.Reported.{faults_in as faults, stack_of};
 ghost use Rattle.flt_explain_runs.specs.Rows.{AreAgainRows, AreNoteRows};
 ghost use Rattle.flt_explain_runs.specs.Warnings.{ArePromised};
 ghost use Rattle.flt_explain_runs.specs.Whole.{AreReportsWithNotes, is_alone};
 
-use crate::again::Setting;
+use crate::again_lines::again_lines;
 use crate::lines::{note_line, note_rows};
-use crate::noted::Note;
 use crate::notices::{detaches, notice_lines};
-use crate::noting::{ParsedText, Stage, TextNotes, tree_at};
 use crate::parts::{Block, Body, RunLines, TextReport};
-use crate::readings::{Reading, StudiedText};
-use crate::schedules::only;
 use crate::totals::Tally;
 use crate::warned::WarnedText;
 use crate::warnings::promise_and_warnings;
 use flt_explain::findings;
-use flt_explain_details::{Scene, Source, Traces, fault_line, findings_line};
+use flt_explain_origins::Group;
+use flt_explain_outcomes::{
+    Note, ParsedText, Reading, Setting, Stage, StudiedText, TextNotes, only, tree_at,
+};
 use flt_explain_reasons::{Kind, Notice, describe};
-use flt_explain_reports::{report_group, report_unread, reported_findings};
+use flt_explain_reports::{report_group, report_unread};
+use flt_explain_texts::{Scene, Source, fault_line, findings_line};
 use flt_explain_warning_details::{
     WarningDetail, WarningOptions, texts_without_circles_are_orderly, warned_status,
     warning_details,
 };
-use flt_explain_ways::Group;
+use flt_explain_ways::{Traces, reported_findings};
 use flt_graph::lower;
 use flt_places::{Files, Lines};
 use flt_search::SearchWatch;
@@ -83,7 +83,7 @@ impl Printer<'_> {
     {
         match setting {
             Some(setting) => match &note.again {
-                Some(again) => setting.lines(self.stage.alloc, &scene.files, again),
+                Some(again) => again_lines(self.stage.alloc, &scene.files, &setting.setter, again),
                 None => Ok(RunLines::none(self.stage.alloc)),
             },
             None => Ok(RunLines::none(self.stage.alloc)),

@@ -1,6 +1,6 @@
 -- What is said of the comments that are left, after one more.
 use Rattle.std.proofs.Common.{◌≡◌, ℕ, suc, ◌+◌, ◌-◌, ◌<◌, ◌≤◌, List, ◌++◌, sym, ap, ◌∙◌, append_assoc, append-nil, arith}
-use Rattle.flt_explain_allowances.specs.declared.of_text.Allowance.{Allowance}
+use Rattle.flt_explain_warnings.specs.declared.allowance.Allowance.{Allowance}
 use Rattle.flt_explain_warnings.specs.declared.warning.Warning.{Warning}
 use Rattle.flt_explain_warning_details.specs.Details.{idle_at, idle_from}
 use Rattle.flt_explain_warning_details.specs.Parsed.{Parsed}

@@ -11,7 +11,7 @@ use Rattle.flt_graph.specs.declared.graph.Graph.{Graph}
 use Rattle.flt_cert.specs.Format.{Certificate}
 use Rattle.flt_order.specs.Order.{TakesInOrder}
 use Rattle.flt_order.specs.declared.order.Acquisition.{Acquisition}
-use Rattle.flt_explain_details.specs.Reports.{IsKnown}
+use Rattle.flt_explain_texts.specs.Reports.{IsKnown}
 use Rattle.flt_sound.specs.Progress.{IsOrderly}
 use Rattle.flt_explain_warnings.specs.Kinds.{allows}
 use Rattle.flt_explain_warnings.specs.Warnings.{AreWarnings, IsShown, circle_warned, warned}
@@ -19,8 +19,8 @@ use Rattle.flt_explain_warnings.specs.declared.kinds.AllowedKinds.{AllowedKinds}
 use Rattle.flt_explain_warnings.specs.declared.warning.Kind.TheVariants.{W01}
 use Rattle.flt_explain_warnings.specs.declared.warning.Warning.{Warning}
 use Rattle.flt_explain_warnings.specs.declared.warning.Warning.TheVariants.{LockCircle}
-use Rattle.flt_explain_allowances.specs.Allowances.{allowances_of}
-use Rattle.flt_explain_allowances.specs.declared.of_text.Allowance.{Allowance}
+use Rattle.flt_explain_warnings.specs.Allowances.{allowances_of}
+use Rattle.flt_explain_warnings.specs.declared.allowance.Allowance.{Allowance}
 use Rattle.flt_explain_warning_details.specs.Details.{AreCertified, AreDetailsBy, IsUncovered, details}
 use Rattle.flt_explain_warning_details.specs.Orderly.{TextsWithoutCirclesAreOrderly, warns_of_circle}
 use Rattle.flt_explain_warning_details.specs.Parsed.{Parsed, parsed}

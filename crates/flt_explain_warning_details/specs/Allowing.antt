@@ -7,7 +7,7 @@ use Rattle.flt_explain_warnings.specs.Kinds.{kind_name}
 use Rattle.flt_explain_warnings.specs.Warning.{kind_of}
 use Rattle.flt_explain_warnings.specs.declared.warning.Kind.{Kind}
 use Rattle.flt_explain_warnings.specs.declared.warning.Warning.{Warning}
-use Rattle.flt_explain_allowances.specs.declared.of_text.Allowance.{Allowance}
+use Rattle.flt_explain_warnings.specs.declared.allowance.Allowance.{Allowance}
 use Rattle.flt_explain_warning_details.specs.Parsed.{Parsed}
 use Rattle.flt_explain_warning_details.specs.Saying.{line_of}
 

@@ -4,11 +4,11 @@ use Rattle.std.specs.List.{concat}
 use Rattle.flt_places.specs.Files.{file_at}
 use Rattle.flt_places.specs.declared.files.Files.{Files}
 use Rattle.flt_tree.specs.Names.{Text}
-use Rattle.flt_explain_details.specs.Page.{line_told, marked}
+use Rattle.flt_explain_texts.specs.Page.{line_told, marked}
 use Rattle.flt_explain_warnings.specs.Kinds.{kind_name}
 use Rattle.flt_explain_warnings.specs.declared.warning.Kind.{Kind}
 use Rattle.flt_explain_warnings.specs.declared.warning.Kind.TheVariants.{W00}
-use Rattle.flt_explain_allowances.specs.declared.of_text.Allowance.{Allowance}
+use Rattle.flt_explain_warnings.specs.declared.allowance.Allowance.{Allowance}
 use Rattle.flt_explain_warning_details.specs.Allowing.{is_reason}
 use Rattle.flt_explain_warning_details.specs.Places.{bare}
 use Rattle.flt_explain_warning_details.specs.declared.detail.WarningDetail.{WarningDetail}

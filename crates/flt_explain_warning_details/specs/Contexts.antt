@@ -9,8 +9,8 @@ use Rattle.flt_graph.specs.declared.instruction.Instruction.{Instruction}
 use Rattle.flt_graph.specs.declared.instruction.Instruction.TheVariants.{Act, Call}
 use Rattle.flt_explain.specs.declared.finding.Subject.{Subject}
 use Rattle.flt_explain.specs.declared.finding.Subject.TheVariants as about
-use Rattle.flt_explain_details.specs.Operands.{context_word}
-use Rattle.flt_explain_details.specs.Page.{marked, quoted}
+use Rattle.flt_explain_texts.specs.Operands.{context_word}
+use Rattle.flt_explain_texts.specs.Page.{marked, quoted}
 use Rattle.flt_explain_warnings.specs.Warning.{site}
 use Rattle.flt_explain_warnings.specs.declared.warning.Site.{Site}
 use Rattle.flt_explain_warning_details.specs.Locks.{called}

@@ -15,8 +15,8 @@ use Rattle.flt_explain_warnings.specs.Warnings.{AreWarnings}
 use Rattle.flt_explain_warnings.specs.declared.kinds.AllowedKinds.{AllowedKinds}
 use Rattle.flt_explain_warnings.specs.declared.warning.Kind.TheVariants.{W00}
 use Rattle.flt_explain_warnings.specs.declared.warning.Warning.{Warning}
-use Rattle.flt_explain_allowances.specs.Allowances.{allowances_of}
-use Rattle.flt_explain_allowances.specs.declared.of_text.Allowance.{Allowance}
+use Rattle.flt_explain_warnings.specs.Allowances.{allowances_of}
+use Rattle.flt_explain_warnings.specs.declared.allowance.Allowance.{Allowance}
 use Rattle.flt_explain_warning_details.specs.Allowing.{is_needed, reason_for}
 use Rattle.flt_explain_warning_details.specs.Comments.{idle_detail}
 use Rattle.flt_explain_warning_details.specs.Parsed.{Parsed, parsed}

@@ -2,7 +2,7 @@
 use Rattle.std.specs.Prelude.{[], ◌∷◌, codes}
 use Rattle.std.specs.List.{concat}
 use Rattle.flt_tree.specs.Names.{Text}
-use Rattle.flt_explain_details.specs.Page.{marked}
+use Rattle.flt_explain_texts.specs.Page.{marked}
 use Rattle.flt_explain_warnings.specs.declared.warning.Site.{Site}
 use Rattle.flt_explain_warning_details.specs.Locks.{called}
 use Rattle.flt_explain_warning_details.specs.Parsed.{Parsed, instruction}

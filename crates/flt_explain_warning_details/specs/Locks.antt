@@ -9,9 +9,9 @@ use Rattle.flt_graph.specs.declared.instruction.Instruction.TheVariants.{Call}
 use Rattle.flt_order.specs.declared.order.Acquisition.{Acquisition}
 use Rattle.flt_explain.specs.declared.finding.Subject.TheVariants as about
 use Rattle.flt_places.specs.Places.{region_of}
-use Rattle.flt_explain_details.specs.Names.{call_name}
-use Rattle.flt_explain_details.specs.Page.{marked, quoted}
-use Rattle.flt_explain_details.specs.declared.operands.Marks.{Marks}
+use Rattle.flt_explain_texts.specs.Names.{call_name}
+use Rattle.flt_explain_texts.specs.Page.{marked, quoted}
+use Rattle.flt_explain_texts.specs.declared.operands.Marks.{Marks}
 use Rattle.flt_explain_warnings.specs.Warning.{site}
 use Rattle.flt_explain_warnings.specs.declared.warning.Site.{Site}
 use Rattle.flt_explain_warning_details.specs.Parsed.{Parsed, instruction, lock}

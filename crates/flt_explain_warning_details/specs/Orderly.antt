@@ -6,7 +6,7 @@ use Rattle.flt_tree.specs.Names.{Text}
 use Rattle.flt_tree.specs.declared.filter.Filter.{Filter}
 use Rattle.flt_tree.specs.declared.tree.Tree.{Tree}
 use Rattle.flt_graph.specs.declared.graph.Graph.{Graph}
-use Rattle.flt_explain_details.specs.Reports.{IsKnown}
+use Rattle.flt_explain_texts.specs.Reports.{IsKnown}
 use Rattle.flt_explain.specs.declared.finding.Finding.{Finding}
 use Rattle.flt_sound.specs.Progress.{IsOrderly}
 use Rattle.flt_explain_warnings.specs.Kinds.{allows}

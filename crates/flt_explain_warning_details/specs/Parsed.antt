@@ -9,8 +9,8 @@ use Rattle.flt_syntax.specs.declared.token.Token.{Token}
 use Rattle.flt_graph.specs.Graph.{instruction_at, line_at}
 use Rattle.flt_graph.specs.declared.graph.Graph.{Graph}
 use Rattle.flt_graph.specs.declared.instruction.Instruction.{Instruction}
-use Rattle.flt_explain_details.specs.Operands.{tokens_of}
-use Rattle.flt_explain_details.specs.Subjects.{head_of}
+use Rattle.flt_explain_texts.specs.Operands.{tokens_of}
+use Rattle.flt_explain_texts.specs.Scene.{head_of}
 use Rattle.flt_explain_warnings.specs.declared.warning.Site.{Site}
 use Rattle.flt_explain_warning_details.specs.declared.parsed.ParsedText.{ParsedText}
 

@@ -9,8 +9,8 @@ use Rattle.flt_graph.specs.Graph.{span_at}
 use Rattle.flt_explain.specs.declared.finding.Subject.{Subject}
 use Rattle.flt_places.specs.Places.{region_of}
 use Rattle.flt_places.specs.declared.places.Region.{Region}
-use Rattle.flt_explain_details.specs.Operands.{operand_at}
-use Rattle.flt_explain_details.specs.declared.operands.Marks.{Marks}
+use Rattle.flt_explain_texts.specs.Operands.{operand_at}
+use Rattle.flt_explain_texts.specs.declared.operands.Marks.{Marks}
 use Rattle.flt_explain_warnings.specs.declared.warning.Site.{Site}
 use Rattle.flt_explain_warning_details.specs.Parsed.{Parsed}
 

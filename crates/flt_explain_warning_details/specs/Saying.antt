@@ -3,7 +3,7 @@ use Rattle.std.specs.Prelude.{ℕ, List, [], ◌∷◌, Option, Some, None}
 use Rattle.flt_tree.specs.Names.{Text}
 use Rattle.flt_tree.specs.declared.variable.OperationVariable.TheVariants.{Data}
 use Rattle.flt_explain.specs.declared.finding.Subject.TheVariants as about
-use Rattle.flt_explain_details.specs.declared.operands.Marks.{Marks}
+use Rattle.flt_explain_texts.specs.declared.operands.Marks.{Marks}
 use Rattle.flt_order.specs.declared.order.Acquisition.{Acquisition}
 use Rattle.flt_explain_warnings.specs.Warning.{site, site_of}
 use Rattle.flt_explain_warnings.specs.declared.warning.Site.{Site}

@@ -14,7 +14,7 @@ use Rattle.flt_tree.specs.declared.variable.NumberVariable.{NumberVariable}
 use Rattle.flt_graph.specs.Graph.{place_at}
 use Rattle.flt_graph.specs.declared.instruction.Instruction.{Instruction}
 use Rattle.flt_graph.specs.declared.instruction.Instruction.TheVariants.{Test}
-use Rattle.flt_explain_details.specs.Page.{marked, quoted}
+use Rattle.flt_explain_texts.specs.Page.{marked, quoted}
 use Rattle.flt_explain_warnings.specs.declared.warning.Site.{Site}
 use Rattle.flt_explain_warning_details.specs.Parsed.{Parsed, head, instruction, lock}
 

@@ -7,8 +7,7 @@ ghost use Rattle.flt_explain_warning_details.specs.Parsed.{of_parsed};
 
 use crate::parsed::ParsedText;
 use crate::saying::line_of;
-use flt_explain_allowances::Allowance;
-use flt_explain_warnings::{Kind, Warning};
+use flt_explain_warnings::{Allowance, Kind, Warning};
 use sqlite_items::Items;
 use std::alloc::{AllocError, Global};
 

@@ -1,15 +1,14 @@
 //! Comments that allow nothing (W00).
 
 ghost use Rattle.std.specs.Prelude.{◌≡◌, [], IfOk};
-ghost use Rattle.flt_explain_details.specs.Page.{Writes};
+ghost use Rattle.flt_explain_texts.specs.Page.{Writes};
 ghost use Rattle.flt_explain_warning_details.specs.Comments as spec;
 
 use crate::allowing::is_reason;
 use crate::detail::WarningDetail;
 use crate::places::bare;
-use flt_explain_allowances::Allowance;
-use flt_explain_details::{Page, Part};
-use flt_explain_warnings::Kind;
+use flt_explain_texts::{Page, Part};
+use flt_explain_warnings::{Allowance, Kind};
 use flt_places::Files;
 use sqlite_items::Items;
 use std::alloc::{AllocError, Global};

@@ -1,7 +1,7 @@
 //! Contexts: whose values are changed without a lock (W04), and that might not be set (W05).
 
 ghost use Rattle.std.specs.Prelude.{◌≡◌, IfOk};
-ghost use Rattle.flt_explain_details.specs.Page.{Writes, said};
+ghost use Rattle.flt_explain_texts.specs.Page.{Writes, said};
 ghost use Rattle.flt_explain_warning_details.specs.Contexts as spec;
 ghost use Rattle.flt_explain_warning_details.specs.Parsed.{of_parsed};
 
@@ -10,7 +10,7 @@ use crate::locks::called;
 use crate::parsed::ParsedText;
 use crate::places::marks_at;
 use flt_explain::Subject;
-use flt_explain_details::{Page, Part};
+use flt_explain_texts::{Page, Part};
 use flt_explain_warnings::Site;
 use flt_graph::{Action, ContextVariable, Instruction};
 use sqlite_items::Items;

@@ -3,7 +3,7 @@
 ghost use Rattle.std.specs.Prelude.{◌≡◌};
 ghost use Rattle.flt_explain_warning_details.specs.Options as spec;
 
-use flt_explain_details::Marks;
+use flt_explain_texts::Marks;
 use flt_explain_warnings::{Kind, Site};
 use flt_order::Acquisition;
 use sqlite_items::Items;

@@ -1,12 +1,12 @@
 //! Calls that need the instance where no operation keeps it (W07).
 
-ghost use Rattle.flt_explain_details.specs.Page.{Writes};
+ghost use Rattle.flt_explain_texts.specs.Page.{Writes};
 ghost use Rattle.flt_explain_warning_details.specs.Late as spec;
 ghost use Rattle.flt_explain_warning_details.specs.Parsed.{of_parsed};
 
 use crate::locks::called;
 use crate::parsed::ParsedText;
-use flt_explain_details::{Page, Part};
+use flt_explain_texts::{Page, Part};
 use flt_explain_warnings::Site;
 use std::alloc::AllocError;
 

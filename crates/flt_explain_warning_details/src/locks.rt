@@ -1,7 +1,7 @@
 //! Locks: taken in no order (W01), and held where the system may run other callbacks (W02).
 
 ghost use Rattle.std.specs.Prelude.{◌≡◌, ◌++◌, map, IfOk, OnOk};
-ghost use Rattle.flt_explain_details.specs.Page.{Writes};
+ghost use Rattle.flt_explain_texts.specs.Page.{Writes};
 ghost use Rattle.flt_explain_warning_details.specs.Locks as spec;
 ghost use Rattle.flt_explain_warning_details.specs.Parsed.{of_parsed};
 
@@ -9,7 +9,7 @@ use crate::detail::RelatedPlace;
 use crate::parsed::ParsedText;
 use crate::places::{NOWHERE, bare, marks_at};
 use flt_explain::Subject;
-use flt_explain_details::{Marks, Page, Part, call_name};
+use flt_explain_texts::{Marks, Page, Part, call_name};
 use flt_explain_warnings::Site;
 use flt_graph::{Instruction, LockNumber};
 use flt_order::Acquisition;

@@ -9,45 +9,28 @@ use crate::comments::idle_detail;
 use crate::detail::WarningDetail;
 use crate::parsed::ParsedText;
 use crate::saying::{circle_of, head_of, help_of, marks_of, note_of, related_of, title_of};
-use flt_analyse::{AnalyseFault, Ticks, analyse};
+use flt_analyse::{AnalyseFault, analyse_plainly};
 use flt_cert::FullCert;
 use flt_explain::Finding;
-use flt_explain_allowances::{Allowance, allowances};
-use flt_explain_details::{Scene, Source, tokens_of};
-use flt_explain_warnings::{AllowedKinds, Kind, Warning, warnings};
+use flt_explain_texts::{Scene, Source, tokens_of};
+use flt_explain_warnings::{Allowance, AllowedKinds, Kind, Warning, allowances, warnings};
 use flt_graph::Graph;
 use flt_places::Lines;
 use flt_syntax::Tree;
 use sqlite_items::Items;
 use std::alloc::{AllocError, Global};
-use std::marker::Brand;
-use std::sync::ledger::{Blank, Ledger};
 
 // ---- the certificate
 
 /// The least certificate of a graph; `None` if no certificate covers it.
-fn certificate_with<L: Ledger>(
-    alloc: Global,
-    graph: &Graph,
-    blank: Blank,
-) -> Result<Option<FullCert>, AllocError>
-    requires name { blank.name ≡ L.name }
-    requires parts { blank.parts ≡ L.parts }
-    requires some { 0 < blank.parts }
+fn certificate(alloc: Global, graph: &Graph) -> Result<Option<FullCert>, AllocError>
     ensures { IfOk result (spec.IsLeastOf graph.now) }
 {
-    let mut ticks = Ticks::<L, 0, 0>::new(blank);
-    match analyse(alloc, graph, &mut ticks) {
+    match analyse_plainly(alloc, graph) {
         Ok(cert) => Ok(Some(cert)),
         Err(AnalyseFault::Refused(_)) => Ok(None),
         Err(AnalyseFault::OutOfMemory) => Err(AllocError),
     }
-}
-
-fn certificate(alloc: Global, graph: &Graph) -> Result<Option<FullCert>, AllocError>
-    ensures { IfOk result (spec.IsLeastOf graph.now) }
-{
-    certificate_with::<Brand>(alloc, graph, Blank::new(1))
 }
 
 // ---- what is said

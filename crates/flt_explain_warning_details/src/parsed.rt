@@ -1,13 +1,13 @@
 //! A text that parses, with all that is looked up in it.
 
 ghost use Rattle.std.specs.Prelude.{◌≡◌};
-ghost use Rattle.flt_explain_details.specs.Operands.{context_word};
-ghost use Rattle.flt_explain_details.specs.Subjects.{head_of};
+ghost use Rattle.flt_explain_texts.specs.Operands.{context_word};
+ghost use Rattle.flt_explain_texts.specs.Scene.{head_of};
 ghost use Rattle.flt_graph.specs.Graph.{instruction_at, line_at};
 ghost use Rattle.flt_explain_warning_details.specs.Parsed as spec;
 
 use flt_explain::Subject;
-use flt_explain_details::{Scene, word_of};
+use flt_explain_texts::{Scene, word_of};
 use flt_explain_warnings::Site;
 use flt_graph::{ContextVariable, Instruction, LockNumber};
 use flt_syntax::Token;

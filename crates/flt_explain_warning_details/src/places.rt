@@ -6,7 +6,7 @@ ghost use Rattle.flt_explain_warning_details.specs.Places as spec;
 
 use crate::parsed::ParsedText;
 use flt_explain::Subject;
-use flt_explain_details::Marks;
+use flt_explain_texts::Marks;
 use flt_explain_warnings::Site;
 use flt_graph::LockNumber;
 use flt_places::Region;

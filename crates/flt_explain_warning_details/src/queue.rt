@@ -1,7 +1,7 @@
 //! Operations that are left in the queue (W03).
 
 ghost use Rattle.std.specs.Prelude.{◌≡◌, IfOk};
-ghost use Rattle.flt_explain_details.specs.Page.{Writes};
+ghost use Rattle.flt_explain_texts.specs.Page.{Writes};
 ghost use Rattle.flt_explain_warning_details.specs.Parsed.{of_parsed};
 ghost use Rattle.flt_explain_warning_details.specs.Queue as spec;
 
@@ -9,7 +9,7 @@ use crate::detail::RelatedPlace;
 use crate::parsed::ParsedText;
 use crate::places::marks_at;
 use flt_explain::Subject;
-use flt_explain_details::Page;
+use flt_explain_texts::Page;
 use flt_explain_warnings::Site;
 use sqlite_items::Items;
 use std::alloc::{AllocError, Global};

@@ -1,7 +1,7 @@
 //! The details of each warning: its place, the problem, how to fix it, and the other places that it is about.
 
 ghost use Rattle.std.specs.Prelude.{◌≡◌, ◌∷◌, [], IfOk};
-ghost use Rattle.flt_explain_details.specs.Page.{Writes};
+ghost use Rattle.flt_explain_texts.specs.Page.{Writes};
 ghost use Rattle.flt_explain_warning_details.specs.Parsed.{of_parsed};
 ghost use Rattle.flt_explain_warning_details.specs.Saying as spec;
 
@@ -26,7 +26,7 @@ use crate::unused::{
     tell_never_note, tell_never_title, tell_unreached_help, tell_unreached_title,
 };
 use flt_explain::Subject;
-use flt_explain_details::{Marks, Page};
+use flt_explain_texts::{Marks, Page};
 use flt_explain_warnings::{Site, Warning};
 use flt_graph::OperationVariable;
 use flt_order::Acquisition;

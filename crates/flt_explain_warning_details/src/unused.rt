@@ -1,13 +1,13 @@
 //! Locks, callbacks, statements and tests that are never used (W06).
 
 ghost use Rattle.std.specs.Prelude.{◌≡◌, option_map};
-ghost use Rattle.flt_explain_details.specs.Page.{Writes};
+ghost use Rattle.flt_explain_texts.specs.Page.{Writes};
 ghost use Rattle.flt_tree.specs.Variable.{number_place};
 ghost use Rattle.flt_explain_warning_details.specs.Parsed.{of_parsed};
 ghost use Rattle.flt_explain_warning_details.specs.Unused as spec;
 
 use crate::parsed::ParsedText;
-use flt_explain_details::{Page, Part};
+use flt_explain_texts::{Page, Part};
 use flt_explain_warnings::Site;
 use flt_graph::{Instruction, LockNumber, NumberVariable, Operation, Place, Test};
 use std::alloc::AllocError;

@@ -1,4 +1,7 @@
+mod CommentMarks
+mod Ends
 pub mod Holding
+mod Lines
 pub mod Marks
 pub mod Places
 pub mod Reaching

@@ -1,9 +1,12 @@
+pub mod Allowances
 pub mod Called
 pub mod Changed
+pub mod Comment
 pub mod Flow
 pub mod Kinds
 pub mod Late
 pub mod Lost
+pub mod Marks
 pub mod Never
 pub mod Paths
 pub mod Pended

@@ -12,7 +12,7 @@ use Rattle.flt_graph.specs.declared.graph.Graph.{Graph}
 use Rattle.flt_graph.specs.declared.graph.Point.{Point}
 use Rattle.flt_graph.specs.declared.instruction.Instruction.{Instruction}
 use Rattle.flt_graph.specs.declared.instruction.Instruction.TheVariants as instruction
-use Rattle.flt_search_triggers.specs.Triggers.{is_started}
+use Rattle.flt_search_started.specs.Triggers.{is_started}
 use Rattle.flt_explain_warnings.specs.declared.warning.Site.{Site}
 use Rattle.flt_explain_warnings.specs.declared.warning.Warning.{Warning}
 use Rattle.flt_explain_warnings.specs.declared.warning.Warning.TheVariants.{UnusedCallback, UnusedLock}

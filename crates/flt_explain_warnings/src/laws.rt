@@ -1,5 +1,6 @@
-//! The law of the search along a trail: it finds the first end to which a path leads.
+//! The laws of the search along a trail, which finds the first end to which a path leads, and of the places of comments.
 
+ghost use Rattle.flt_explain_warnings.specs.Marks as marks;
 ghost use Rattle.flt_explain_warnings.specs.Paths as spec;
 
 /// The point that W03 or W05 names is on a path of the graph along which no work item that removes is queued (W03), or the context stays
@@ -8,4 +9,9 @@ ghost use Rattle.flt_explain_warnings.specs.Paths as spec;
 pub fn ends_are_on_paths()
     ensures found { spec.EndsAreOnPaths }
     ensures first { spec.FirstEndsAreFound }
+{}
+
+/// Each comment is where its region says: its `#` is there in the text. It does nothing at run time: its clause is the law.
+pub fn comments_begin_with_marks()
+    ensures { marks.CommentsBeginWithMarks }
 {}

@@ -1,9 +1,12 @@
 //! Warnings: mistakes beside the rules that an accepted text may still have, by its least certificate and its graph. It exports `warnings`,
-//! which lists all of them, and `Warning`, which says where each of them is and which items it is about.
+//! which lists all of them, and `Warning`, which says where each of them is and which items it is about. `allowances` are the comments that
+//! leave a warning out: `# allow W03: why`, alone on a line before its statement. They are read from the lines of a text, beside its tokens.
 #![tactic(auto)]
 
+mod allowance;
 mod called;
 mod changed;
+mod comment;
 mod flow;
 mod kinds;
 mod late;
@@ -19,7 +22,8 @@ mod unreached;
 mod unused;
 mod warning;
 
+pub use allowance::{Allowance, allowances};
 pub use kinds::{AllowedKinds, kind_named};
-pub use laws::ends_are_on_paths;
+pub use laws::{comments_begin_with_marks, ends_are_on_paths};
 pub use of_text::warnings;
 pub use warning::{Kind, Site, Warning};

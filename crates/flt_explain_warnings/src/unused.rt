@@ -5,7 +5,7 @@ ghost use Rattle.flt_explain_warnings.specs.Unused as spec;
 
 use crate::warning::{Site, Warning};
 use flt_graph::{CallbackGraph, Graph, Instruction, LockNumber};
-use flt_search_triggers::is_started;
+use flt_search_started::is_started;
 use sqlite_items::Items;
 use std::alloc::AllocError;
 

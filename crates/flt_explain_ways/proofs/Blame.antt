@@ -24,7 +24,7 @@ use Rattle.flt_explain.specs.declared.finding.Fault.{Fault}
 use Rattle.flt_explain.specs.declared.finding.Subject.{Subject}
 use Rattle.flt_explain.specs.declared.finding.Subject.TheVariants as about
 use Rattle.flt_explain_ways.specs.NoWay.{is_itself, may_break}
-use Rattle.flt_explain_ways.specs.Ways.{is_fault_of, is_among}
+use Rattle.flt_explain_origins.specs.Ways.{is_fault_of, is_among}
 
 -- ---- numbers and places tell rules and subjects apart
 

@@ -19,8 +19,8 @@ use Rattle.flt_abs.specs.State.{Status, Null, Held, Situation}
 use Rattle.flt_explain.specs.declared.finding.Finding.{Finding}
 use Rattle.flt_explain.specs.declared.finding.Subject.TheVariants as about
 use Rattle.flt_explain_ways.specs.NoWay.{NoWay, is_checked, is_ruled_out}
-use Rattle.flt_explain_ways.specs.Ways.{moment}
-use Rattle.flt_explain_ways.specs.declared.answer.Way.{Way}
+use Rattle.flt_explain_origins.specs.Ways.{moment}
+use Rattle.flt_explain_origins.specs.declared.answer.Way.{Way}
 use Rattle.flt_explain_ways.specs.declared.cover.Cover.{Cover}
 
 abbrev pub point : Instruction → Point

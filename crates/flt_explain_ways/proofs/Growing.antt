@@ -53,7 +53,7 @@ use Rattle.flt_explain.specs.About.{is_context, is_row_about, is_status_about, i
 use Rattle.flt_explain.specs.declared.finding.Finding.{Finding}
 use Rattle.flt_explain.specs.declared.finding.Subject.{Subject}
 use Rattle.flt_explain.specs.declared.finding.Subject.TheVariants as about
-use Rattle.flt_explain_ways.specs.Alone.{status_alone, mode_alone, draining_alone, alone}
+use Rattle.flt_explain_origins.specs.Alone.{status_alone, mode_alone, draining_alone, alone}
 use Rattle.flt_explain_ways.specs.NoWay.{is_itself, reads_locks, may_break}
 
 -- ---- locks that aren't followed

@@ -4,7 +4,7 @@ use Rattle.std.specs.List.{AllZip}
 use Rattle.flt_explain.specs.declared.finding.Finding.{Finding}
 use Rattle.flt_graph.specs.declared.graph.Graph.{Graph}
 use Rattle.flt_explain_ways.specs.Told.{IsAnswer}
-use Rattle.flt_explain_ways.specs.declared.answer.Answer.{Answer}
+use Rattle.flt_explain_origins.specs.declared.answer.Answer.{Answer}
 
 one_more : {A B : Type 0} (R : A → B → Type 0) (xs : List A) (ys : List B) (i : ℕ) (x : A) (y : B) → i < length xs → x ≡ get_or xs i x →
     AllZip R (take i xs) ys → R x y → AllZip R (take (suc i) xs) (ys ++ y ∷ [])

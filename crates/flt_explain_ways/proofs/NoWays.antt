@@ -19,13 +19,13 @@ use Rattle.flt_abs.specs.declared.step.Successors.{Successors}
 use Rattle.flt_explain_closed.specs.Closed.{IsClosed, is_closed}
 use Rattle.flt_explain_closed.specs.declared.member.Member.{Member}
 use Rattle.flt_explain.specs.declared.finding.Finding.{Finding}
-use Rattle.flt_explain_ways.specs.Alone.{alone}
+use Rattle.flt_explain_origins.specs.Alone.{alone}
 use Rattle.flt_explain_ways.specs.NoWay.{NoWay, NoWayBy, reads_locks, may_break, is_free, is_with}
 use Rattle.flt_explain_ways.specs.NoWay.{meets_none, is_alone, rules_out, is_checked, is_ruled_out}
-use Rattle.flt_explain_ways.specs.Ways.{or_zero, next_point, are_lists_apart, Shows, Meet}
-use Rattle.flt_explain_ways.specs.declared.answer.Way.{Way}
+use Rattle.flt_explain_origins.specs.Ways.{or_zero, next_point, are_lists_apart, Shows, Meet}
+use Rattle.flt_explain_origins.specs.declared.answer.Way.{Way}
 use Rattle.flt_explain_ways.specs.declared.cover.Cover.{Cover}
-use Rattle.flt_explain_ways.specs.declared.situation.Moment.{Moment}
+use Rattle.flt_explain_origins.specs.declared.situation.Moment.{Moment}
 use Rattle.flt_explain_ways.proofs.Blame.{found_breaks}
 use Rattle.flt_explain_ways.proofs.Growing.{Grows, breaks_above}
 use Rattle.flt_explain_ways.proofs.Walks.{end_in, last_in}

@@ -11,9 +11,9 @@ use Rattle.flt_abs.specs.Outcome.{may_come_out}
 use Rattle.flt_abs.specs.State.{Situation}
 use Rattle.flt_explain_closed.specs.Closed.{IsIn, IsClosed}
 use Rattle.flt_explain_closed.specs.declared.member.Member.{Member}
-use Rattle.flt_explain_ways.specs.Ways.{next_point, moment_after, breaks_nothing, is_taken, end_of, is_last}
-use Rattle.flt_explain_ways.specs.declared.answer.Step.{Step}
-use Rattle.flt_explain_ways.specs.declared.situation.Moment.{Moment}
+use Rattle.flt_explain_origins.specs.Ways.{next_point, moment_after, breaks_nothing, is_taken, end_of, is_last}
+use Rattle.flt_explain_origins.specs.declared.answer.Step.{Step}
+use Rattle.flt_explain_origins.specs.declared.situation.Moment.{Moment}
 
 has_successor : (i : Instruction) (t : Situation) (outcome : Bool) → may_come_out i t outcome ≡ true →
     successor i outcome ≡ Some (next_point i outcome)

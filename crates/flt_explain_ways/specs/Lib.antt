@@ -1,9 +1,5 @@
-pub mod Alone
-pub mod Facts
-pub mod Gathering
-pub mod Grouping
+pub mod Covering
 pub mod NoWay
-pub mod Origins
-pub mod Search
+pub mod Reported
 pub mod Told
-pub mod Ways
+pub mod Tracing

@@ -17,8 +17,8 @@ use Rattle.flt_explain.specs.About.{is_about}
 use Rattle.flt_explain.specs.declared.finding.Finding.{Finding}
 use Rattle.flt_explain.specs.declared.finding.Subject.{Subject}
 use Rattle.flt_explain.specs.declared.finding.Subject.TheVariants as subject
-use Rattle.flt_explain_ways.specs.Ways.{Shows, Meet, are_lists_apart}
-use Rattle.flt_explain_ways.specs.declared.answer.Way.{Way}
+use Rattle.flt_explain_origins.specs.Ways.{Shows, Meet, are_lists_apart}
+use Rattle.flt_explain_origins.specs.declared.answer.Way.{Way}
 use Rattle.flt_explain_ways.specs.declared.cover.Cover.{Cover}
 
 -- ---- what is said

@@ -3,11 +3,11 @@ use Rattle.std.specs.Prelude.{Bool, true, false, Option, Some, None}
 use Rattle.flt_graph.specs.declared.graph.Graph.{Graph}
 use Rattle.flt_explain.specs.declared.finding.Finding.{Finding}
 use Rattle.flt_explain_ways.specs.NoWay.{NoWay}
-use Rattle.flt_explain_ways.specs.Ways.{Shows, Meet}
-use Rattle.flt_explain_ways.specs.declared.answer.Answer.{Answer}
-use Rattle.flt_explain_ways.specs.declared.answer.Answer.TheVariants as answer
-use Rattle.flt_explain_ways.specs.declared.answer.Way.{Way}
-use Rattle.flt_explain_ways.specs.declared.answer.Ways.{Ways}
+use Rattle.flt_explain_origins.specs.Ways.{Shows, Meet}
+use Rattle.flt_explain_origins.specs.declared.answer.Answer.{Answer}
+use Rattle.flt_explain_origins.specs.declared.answer.Answer.TheVariants as answer
+use Rattle.flt_explain_origins.specs.declared.answer.Way.{Way}
+use Rattle.flt_explain_origins.specs.declared.answer.Ways.{Ways}
 
 -- a way shows the finding by itself, or with another that it meets
 abbrev pub ShowWith : Graph → Finding → Bool → Way → Option Way → Type 0

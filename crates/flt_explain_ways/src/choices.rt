@@ -1,12 +1,12 @@
 //! The choices on a path: which of the possible situations at the entry, and whether a call that may give a context gives one. Each part is
 //! chosen backwards, from the value that is wanted at the end.
 
-use crate::answer::Step;
 use crate::ground::Ground;
 use crate::plan::{Side, Spot};
 use crate::possible::{HELD, Part, Possible, lowest};
 use crate::search::Search;
-use crate::situation::{Situation, entered};
+use crate::starts::entered;
+use flt_explain_origins::{Situation, Step};
 use sqlite_items::Items;
 use std::alloc::{AllocError, Global};
 

@@ -1,11 +1,10 @@
 //! The moments to which steps lead.
 
 ghost use Rattle.std.specs.Prelude.{◌≡◌, Some, IfSome, IsTrue};
-ghost use Rattle.flt_explain_ways.specs.Ways as spec;
+ghost use Rattle.flt_explain_origins.specs.Ways as spec;
 
-use crate::answer::Step;
 use crate::faults::breaks_nothing;
-use crate::situation::Moment;
+use flt_explain_origins::{Moment, Step};
 use flt_graph::Graph;
 
 /// The moment to which a step leads, if it may be taken.

@@ -2,11 +2,11 @@
 
 ghost use Rattle.std.specs.Prelude.{◌≡◌, IfOk, Ok};
 ghost use Rattle.flt_explain.specs.Subjects.{place as place_of_subject};
-ghost use Rattle.flt_explain_ways.specs.Ways as spec;
+ghost use Rattle.flt_explain_origins.specs.Ways as spec;
 
-use crate::situation::Situation;
 use flt_abs::{LockList, transfer};
 use flt_explain::{Fault, Finding, Subject, faults};
+use flt_explain_origins::Situation;
 use flt_graph::Graph;
 use std::alloc::{AllocError, Global};
 

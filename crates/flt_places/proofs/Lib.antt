@@ -1,2 +1,4 @@
+pub mod Before
 mod Cuts
+pub mod Fronts
 pub mod Starts

@@ -1,10 +1,9 @@
 -- Where transitions lead, whatever they break. This project's own definitions.
 use Rattle.std.specs.Prelude.{◌≡◌, ◌≤◌, ◌<◌, ◌+◌, ℕ, Bool, true, if◌then◌else◌, List}
-use Rattle.std.specs.Prelude.{Option, Some, None, is_some, option_map, option_and_then}
+use Rattle.std.specs.Prelude.{Option, Some, None, is_some, option_map}
 use Rattle.flt_tree.specs.declared.filter.Filter.{Filter}
 use Rattle.flt_model.specs.declared.event.Event.{Event}
 use Rattle.flt_model.specs.Effects.{Step}
-use Rattle.flt_model.specs.Runs.{run_from}
 use Rattle.flt_model.specs.Steps.{Transition, step}
 use Rattle.flt_model.specs.World.{World}
 use Rattle.flt_replay_steps.specs.Unseen.{unseen}
@@ -20,10 +19,6 @@ world_of = option_map (λ s. s.world)
 -- the world after a transition, where these events happened before
 abbrev pub after_step : List Filter → World → List Event → Transition → Option World
 after_step p w t x = world_of (step p w t x)
-
--- the world after some transitions, where these events happened before; none where there are no transitions, or one isn't enabled
-abbrev pub after_steps : List Filter → World → List Event → Option (List Transition) → Option World
-after_steps p w t xs = option_map (λ m. m.world) (option_and_then (run_from p (record { world = w; trace = t })) xs)
 
 -- so many local steps of an activation were made, of this many that were asked for; where they are fewer, the next one isn't enabled
 pub record GoesLocally (steps : ℕ) (w : World) (a made : ℕ) (u : World) : Type 0 where

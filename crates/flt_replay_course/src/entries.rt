@@ -1,12 +1,11 @@
-//! Makes moves, steps and entries, whatever they break: their events aren't read.
+//! Makes moves and steps, whatever they break: their events aren't read.
 
 ghost use Rattle.std.specs.Prelude.{List, IfOk};
 ghost use Rattle.flt_model.specs.declared.event.Event.{Event};
-ghost use Rattle.flt_model.specs.Expansion.{expansion, go_on};
 ghost use Rattle.flt_model.specs.Steps.{Make, Board};
 ghost use Rattle.flt_replay_course.specs.Leading as spec;
 
-use flt_model::{JournalEntry, Move};
+use flt_model::Move;
 use flt_replay_steps::Setup;
 use flt_replay_world::{Stack, World};
 use std::alloc::{AllocError, Global};
@@ -67,50 +66,4 @@ pub fn step_seen<'a>(
     };
     let mut events = Vec::new(alloc);
     flt_replay_steps::step_seen(world, stack, setup, &mut events)
-}
-
-/// Makes so many steps, of which exactly the last is seen. Returns false if one of them isn't enabled.
-fn go<'a>(
-    world: &mut World<'a>,
-    alloc: Global,
-    stack: &Stack<'a>,
-    a: usize,
-    steps: u32,
-    grant: bool,
-) -> Result<bool, AllocError>
-    ensures { IfOk result
-        (λ made. (t : List Event) → spec.LeadsTo (spec.after_steps stack.now world.old t (go_on a steps grant)) made world.new) }
-{
-    if steps == 0 {
-        return Ok(false);
-    }
-    let made = go_locally(world, a, steps - 1)?;
-    if made < steps - 1 {
-        return Ok(false);
-    }
-    step_seen(world, alloc, stack, a, grant)
-}
-
-/// Makes an entry. Returns false if one of its transitions isn't enabled.
-///
-/// # Errors
-///
-/// If memory is refused, or a number or a count would reach 2^32.
-pub fn make_entry<'a>(
-    world: &mut World<'a>,
-    alloc: Global,
-    stack: &Stack<'a>,
-    entry: JournalEntry,
-) -> Result<bool, AllocError>
-    ensures { IfOk result
-        (λ made. (t : List Event) → spec.LeadsTo (spec.after_steps stack.now world.old t (expansion entry)) made world.new) }
-{
-    match entry {
-        JournalEntry::Move(step) => make_move(world, alloc, stack, step),
-        JournalEntry::Go {
-            activation,
-            steps,
-            grant,
-        } => go(world, alloc, stack, activation as usize, steps, grant),
-    }
 }

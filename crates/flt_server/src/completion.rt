@@ -3,8 +3,8 @@
 use crate::members::{put_number, put_text};
 use crate::places::Document;
 use crate::trial::{byte_of_fault, fault_of, trial_text};
-use flt_explain_details::tokens_of;
 use flt_explain_hints::{Choices, ExpectedWord, describe};
+use flt_explain_texts::tokens_of;
 use flt_server_outline::is_variable;
 use flt_syntax::{Kind, SyntaxFault};
 use json::Writer;

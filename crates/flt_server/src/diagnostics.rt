@@ -8,7 +8,7 @@ use crate::flaws::put_flaw;
 use crate::places::{Document, document_in_c, document_of};
 use crate::warned::put_warnings;
 use flt_c::{Flaw, PlaceFlaw};
-use flt_explain_details::{TextJudgement, judge};
+use flt_explain_texts::{TextJudgement, judge};
 use flt_server_session::OpenText;
 use json::Writer;
 use std::alloc::{AllocError, Global};

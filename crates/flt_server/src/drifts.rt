@@ -5,8 +5,9 @@ use crate::faults::{put_kind, put_rest};
 use crate::findings::put_related_place;
 use crate::members::{add_line, put_text};
 use crate::places::{Document, region_of};
-use flt_c_drift::{Drift, DriftKind, Span, drifts};
-use flt_c_drift_reports::{code, drift_sentence, has_difference, help, is_difference};
+use flt_c_drift::{
+    Drift, DriftKind, Span, code, drift_sentence, drifts, has_difference, help, is_difference,
+};
 use flt_places::Region;
 use flt_server_outline::Part;
 use json::Writer;

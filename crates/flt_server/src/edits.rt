@@ -4,7 +4,7 @@ use crate::focus::Focus;
 use crate::members::{put_string, put_text};
 use crate::places::Document;
 use flt_explain::Finding;
-use flt_explain_details::{TextJudgement, judge};
+use flt_explain_texts::{TextJudgement, judge};
 use flt_server_outline::Part;
 use json::Writer;
 use std::alloc::{AllocError, Global};

@@ -1,47 +1,31 @@
 //! Facts of a statement in words, by the certificate of a text: each variable, each lock and the level where it is reached.
 
-ghost use Rattle.std.specs.Prelude.{◌≡◌, ◌<◌, IfOk};
+ghost use Rattle.std.specs.Prelude.{IfOk};
 ghost use Rattle.flt_explain_warning_details.specs.Details.{IsLeastOf};
 
 use flt_abs::{Abs, Statuses};
-use flt_analyse::{AnalyseFault, Ticks, analyse};
+use flt_analyse::{AnalyseFault, analyse_plainly};
 use flt_cert::FullCert;
 use flt_explain::Subject;
-use flt_explain_details::{Page, word_of};
+use flt_explain_texts::{Page, word_of};
 use flt_graph::Graph;
 use flt_rules::{Access, HeldLock, Level, entry_level, raised_by};
 use flt_syntax::Tree;
 use std::alloc::{AllocError, Global};
-use std::marker::Brand;
-use std::sync::ledger::{Blank, Ledger};
 
 const CONTEXTS: [&str; 9] = ["c0", "c1", "c2", "c3", "c4", "c5", "c6", "c7", "arg"];
 
 const OPERATIONS: [&str; 5] = ["o0", "o1", "o2", "o3", "data"];
 
 /// The least certificate of a graph; none if no certificate covers it.
-fn certificate_with<L: Ledger>(
-    alloc: Global,
-    graph: &Graph,
-    blank: Blank,
-) -> Result<Option<FullCert>, AllocError>
-    requires name { blank.name ≡ L.name }
-    requires parts { blank.parts ≡ L.parts }
-    requires some { 0 < blank.parts }
+fn certificate(alloc: Global, graph: &Graph) -> Result<Option<FullCert>, AllocError>
     ensures { IfOk result (IsLeastOf graph.now) }
 {
-    let mut ticks = Ticks::<L, 0, 0>::new(blank);
-    match analyse(alloc, graph, &mut ticks) {
+    match analyse_plainly(alloc, graph) {
         Ok(cert) => Ok(Some(cert)),
         Err(AnalyseFault::Refused(_)) => Ok(None),
         Err(AnalyseFault::OutOfMemory) => Err(AllocError),
     }
-}
-
-fn certificate(alloc: Global, graph: &Graph) -> Result<Option<FullCert>, AllocError>
-    ensures { IfOk result (IsLeastOf graph.now) }
-{
-    certificate_with::<Brand>(alloc, graph, Blank::new(1))
 }
 
 /// The words for a set of statuses, by a certificate's digit.

@@ -3,8 +3,8 @@
 use crate::members::{add_line, put_number, put_string, put_text};
 use crate::places::{Document, own_files};
 use crate::trial::trial_text;
-use flt_explain_details::{fault_name, line_words};
 use flt_explain_hints::{FaultExplanation, Trouble, describe, tell};
+use flt_explain_texts::{fault_name, line_words};
 use flt_places::{Region, lines_of};
 use flt_rules::MAX_TEXT;
 use flt_server_outline::Part;

@@ -10,7 +10,7 @@ use crate::members::{nothing, null};
 use crate::places::{Document, document_in_c, document_of};
 use crate::symbols::symbols;
 use crate::uses::{definition, references};
-use flt_c_files::is_c_file;
+use flt_c::is_c_file;
 use flt_server_session::{Language, OpenText, Question};
 use std::alloc::{AllocError, Global};
 

@@ -2,8 +2,7 @@
 
 use crate::members::{put_number, put_string};
 use crate::places::Document;
-use flt_c::{Place, PlaceFlaw};
-use flt_c_files::{flaw_place, flaw_words};
+use flt_c::{Place, PlaceFlaw, flaw_place, flaw_words};
 use flt_places::Region;
 use flt_tree::Position;
 use json::Writer;

@@ -1,7 +1,7 @@
 //! The part of a text on which a place depends: its callback, and the heads of the others. Words are tried and edits are judged on it,
 //! which takes a fraction of what the whole text takes.
 
-use flt_explain_details::tokens_of;
+use flt_explain_texts::tokens_of;
 use flt_server_outline::{Symbol, SymbolKind, mark_tokens, symbols_of};
 use sqlite_items::Items;
 use std::alloc::{AllocError, Global};

@@ -2,7 +2,7 @@
 
 use crate::members::{put_number, put_string};
 use crate::places::Document;
-use flt_explain_details::tokens_of;
+use flt_explain_texts::tokens_of;
 use flt_server_outline::{Fold, folds_of};
 use json::Writer;
 use std::alloc::{AllocError, Global};

@@ -1,7 +1,7 @@
 //! The statements of a text that are over before a place: words can be tried there without them.
 
 use crate::focus::{Focus, add_hollow};
-use flt_explain_details::tokens_of;
+use flt_explain_texts::tokens_of;
 use flt_server_outline::{MarkedToken, Role, is_variable, mark_tokens};
 use flt_syntax::{Kind, Token};
 use sqlite_items::Items;

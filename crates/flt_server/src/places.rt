@@ -1,7 +1,7 @@
 //! Documents, and places in them as members of JSON objects.
 
 use crate::annotated::{CFile, Pair};
-use flt_explain_details::Source;
+use flt_explain_texts::Source;
 use flt_places::{Files, Lines, Region};
 use flt_server_outline::{Part, byte_of, spot_of};
 use flt_server_session::{Encoding, OpenText, Spot};

@@ -2,7 +2,7 @@
 
 use crate::focus::{Focus, focus_on};
 use crate::narrow::narrow;
-use flt_explain_details::fault_name;
+use flt_explain_texts::fault_name;
 use flt_server_outline::byte_of;
 use flt_server_session::{Encoding, Spot};
 use flt_syntax::{ParseError, SyntaxFault, parse};

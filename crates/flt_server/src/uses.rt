@@ -2,7 +2,7 @@
 
 use crate::members::null;
 use crate::places::{Document, region_of};
-use flt_explain_details::tokens_of;
+use flt_explain_texts::tokens_of;
 use flt_server_outline::{MarkedToken, Part, declaration_of, mark_tokens, mention_at, uses_of};
 use flt_syntax::Token;
 use json::Writer;

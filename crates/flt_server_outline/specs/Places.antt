@@ -1,6 +1,6 @@
 -- Places as the Language Server Protocol 3.17 counts them.
 use Rattle.std.specs.Prelude.{ℕ, ◌+◌, ◌-◌, ◌==◌, if◌then◌else◌, length, min}
-use Rattle.flt_columns.specs.Columns.{bytes_before, column_of}
+use Rattle.flt_places.specs.Columns.{bytes_before, column_of}
 use Rattle.flt_places.specs.Places.{first_line, rest_behind}
 use Rattle.flt_server_session.specs.declared.language.Encoding.{Encoding}
 use Rattle.flt_server_session.specs.declared.language.Encoding.TheVariants as encoding

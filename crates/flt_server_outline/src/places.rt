@@ -4,8 +4,7 @@ ghost use Rattle.std.specs.Prelude.{◌≡◌, ◌≤◌, ◌-◌, drop, length}
 ghost use Rattle.flt_server_outline.specs.Places as spec;
 ghost use Rattle.flt_places.specs.Places.{first_line as line_at_front, rest_behind};
 
-use flt_columns::{bytes_before, column_of};
-use flt_places::Lines;
+use flt_places::{Lines, bytes_before, column_of};
 use flt_server_session::{Encoding, Spot};
 use flt_tree::Position;
 

@@ -1,38 +1,27 @@
 //! Whether locks are taken in an order, by any certificate that covers. If one shows an order, the least one does: it has no more reached
 //! points and held locks. A greater one may show a circle although the least one shows an order.
 
-ghost use Rattle.std.specs.Prelude.{◌≡◌, ◌<◌, ◌↔◌, IsTrue, IfOk};
+ghost use Rattle.std.specs.Prelude.{◌↔◌, IsTrue, IfOk};
 ghost use Rattle.flt_analyse.specs.Least.{NoneCovers};
 ghost use Rattle.flt_cert.specs.Spelling.{is_cert};
 ghost use Rattle.flt_check.specs.Accepting.{CertCovers};
 ghost use Rattle.flt_stack.specs.Ordering as spec;
 
 use flt_abs::is_partial_order;
-use flt_analyse::{AnalyseFault, Ticks, analyse};
+use flt_analyse::{AnalyseFault, analyse_plainly};
 use flt_cert::Cert;
 use flt_check::accepted_certificates_fill_up;
 use flt_graph::Graph;
 use flt_order::find_circle;
 use std::alloc::{AllocError, Global};
-use std::marker::Brand;
-use std::sync::ledger::{Blank, Ledger};
 
-/// Whether the least certificate shows an order. There is one, since some certificate covers. The transfers are counted in a ledger that
-/// nobody reads.
-fn is_ordered_by_least<L: Ledger>(
-    alloc: Global,
-    graph: &Graph,
-    blank: Blank,
-) -> Result<bool, AllocError>
-    requires name { blank.name ≡ L.name }
-    requires parts { blank.parts ≡ L.parts }
-    requires some { 0 < blank.parts }
+/// Whether the least certificate shows an order. There is one, since some certificate covers.
+fn is_ordered_by_least(alloc: Global, graph: &Graph) -> Result<bool, AllocError>
     requires covered { ¬ NoneCovers graph.now }
     ensures { IfOk result (λ ordered. IsTrue ordered ↔ spec.IsOrdered graph.now) }
 {
-    let mut ticks = Ticks::<L, 0, 0>::new(blank);
     is_partial_order();
-    match analyse(alloc, graph, &mut ticks) {
+    match analyse_plainly(alloc, graph) {
         Ok(least) => Ok(find_circle(graph, &least).is_none()),
         Err(AnalyseFault::Refused(_refusal)) => unreachable!(),
         Err(AnalyseFault::OutOfMemory) => Err(AllocError),
@@ -61,5 +50,5 @@ pub(crate) fn is_ordered(alloc: Global, graph: &Graph, cert: &Cert) -> Result<bo
         return Ok(true);
     }
     accepted_certificates_fill_up();
-    is_ordered_by_least::<Brand>(alloc, graph, Blank::new(1))
+    is_ordered_by_least(alloc, graph)
 }

@@ -23,8 +23,8 @@ use Rattle.flt_model.specs.declared.moves.JournalEntry.{JournalEntry}
 use Rattle.flt_model.specs.declared.moves.JournalEntry.TheVariants as entry
 use Rattle.flt_model.specs.declared.moves.Move.{Move}
 use Rattle.flt_model.specs.declared.moves.Move.TheVariants as moves
-use Rattle.flt_stack_receipts.specs.Bounds.{IsFull}
-use Rattle.flt_stack_receipts.specs.Receipts.{is_arrival}
+use Rattle.flt_stack_core.specs.Bounds.{IsFull}
+use Rattle.flt_stack_core.specs.Receipts.{is_arrival}
 use Rattle.flt_tree.specs.declared.filter.Filter.{Filter}
 use Rattle.flt_rules.specs.Limits.{max_entries, max_operations}
 

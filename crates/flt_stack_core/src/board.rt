@@ -2,8 +2,8 @@
 ghost use Rattle.std.specs.Prelude.{◌≡◌, ◌↔◌, ◌⊎◌, ◌<◌, ◌+◌, ◌++◌, ◌∷◌, [], true, false, length};
 ghost use Rattle.std.specs.Prelude.{Err, Some, None, IfErr, IfOk, IfSome, IsTrue, OnOk, OnErr};
 ghost use Rattle.flt_stack_core.specs.Counting.{callers_in, is_callers_move, others_in};
-ghost use Rattle.flt_stack_receipts.specs.Bounds.{IsFull};
-ghost use Rattle.flt_stack_receipts.specs.Receipts.{receipt};
+ghost use Rattle.flt_stack_core.specs.Bounds.{IsFull};
+ghost use Rattle.flt_stack_core.specs.Receipts.{receipt};
 ghost use Rattle.flt_stack_core.specs.Refusals as spec;
 ghost use Rattle.flt_stack_core.specs.declared.fault.ArriveFault.TheVariants as arrive_fault;
 ghost use Rattle.flt_stack_core.specs.declared.fault.DetachFault.TheVariants as detach_fault;
@@ -23,13 +23,14 @@ ghost use Rattle.flt_rules.specs.Limits.{max_entries, max_operations};
 
 use crate::choices::Choices;
 use crate::fault::{ArriveFault, DetachFault};
+use crate::laws::arrivals_are_operations;
 use crate::names::{CallerEntries, Fulls, OtherEntries, StackName};
+use crate::receipt::Receipt;
 use crate::receipts::Receipts;
 use counted_heap::Heap;
 use flt_machine::{ApplyFault, Board, Events, Loaded, OutOfMemory};
 use flt_model::{Journal, Move, Subject};
 use flt_rules::{MAX_ENTRIES, MAX_OPERATIONS, Mode, Operation};
-use flt_stack_receipts::{Receipt, arrivals_are_operations};
 use std::alloc::Global;
 use std::marker::Model;
 use std::sync::ledger::{Book, Share};
@@ -50,7 +51,7 @@ impl<N: StackName> Model for Core<N> {
     ghost use Rattle.flt_stack_core.specs.Counting.{callers_in, others_in};
     ghost use Rattle.flt_stack_core.specs.Guarded.{Guarded};
     ghost use Rattle.flt_machine.specs.Situations.{IsBoard};
-    ghost use Rattle.flt_stack_receipts.specs.Bounds.{IsFull};
+    ghost use Rattle.flt_stack_core.specs.Bounds.{IsFull};
 
     ghost Value = { Guarded };
 

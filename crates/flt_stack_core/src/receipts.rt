@@ -2,7 +2,7 @@
 ghost use Rattle.std.specs.Prelude.{◌≡◌, ◌<◌, []};
 
 use crate::names::{CallerEntries, Counts};
-use flt_stack_receipts::Receipt;
+use crate::receipt::Receipt;
 use std::alloc::Global;
 use std::sync::ledger::Share;
 

@@ -10,9 +10,9 @@ use Rattle.flt_stack_crew.specs.Giving.{IsAimed}
 use Rattle.flt_stack_prepare.specs.Preparing.{IsPrepared}
 use Rattle.flt_model.specs.Program.{by_altitude, put_by_altitude}
 use Rattle.flt_model.specs.Streams.{Text}
-use Rattle.flt_stack_prepare.specs.ScriptText.{Commands, are_commands, is_command, is_loaded, may_follow}
-use Rattle.flt_stack_prepare.specs.declared.command.Command.{Command}
-use Rattle.flt_stack_prepare.specs.declared.command.Command.TheVariants.{Arrive, Cancel, Detach, Refuse}
+use Rattle.flt_stack_script.specs.ScriptText.{Commands, are_commands, is_command, is_loaded, may_follow}
+use Rattle.flt_stack_script.specs.declared.command.Command.{Command}
+use Rattle.flt_stack_script.specs.declared.command.Command.TheVariants.{Arrive, Cancel, Detach, Refuse}
 use Rattle.flt_tree.specs.declared.filter.Filter.{Filter}
 
 -- which of two comes first doesn't matter

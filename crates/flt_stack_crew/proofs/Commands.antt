@@ -1,11 +1,11 @@
 -- The commands that were given, and what came of them.
 use Rattle.std.proofs.Common.{◌≡◌, ℕ, ◌+◌, ◌<◌, List, [], ◌∷◌, ◌++◌, length, get_or, take, drop, ap, sym, subst, ◌∙◌}
 use Rattle.std.proofs.lemmas.List.{append-nil, drop_more, take-append-drop, take_more}
-use Rattle.flt_stack_receipts.specs.declared.receipt.Receipt.{Receipt}
+use Rattle.flt_stack_core.specs.declared.receipt.Receipt.{Receipt}
 use Rattle.flt_stack_crew.specs.Giving.{AreGiven, AreMade, IsDetach, Makes, StopsAtDetach, asks, begun, one_more}
-use Rattle.flt_stack_prepare.specs.ScriptText.{Commands}
-use Rattle.flt_stack_prepare.specs.declared.command.Command.{Command}
-use Rattle.flt_stack_prepare.specs.declared.command.Command.TheVariants.{Detach}
+use Rattle.flt_stack_script.specs.ScriptText.{Commands}
+use Rattle.flt_stack_script.specs.declared.command.Command.{Command}
+use Rattle.flt_stack_script.specs.declared.command.Command.TheVariants.{Detach}
 
 -- nothing is given
 pub made_none : (commands : Commands) (receipts : List Receipt) (asked : List ℕ) → receipts ≡ [] → asked ≡ [] →

@@ -9,7 +9,7 @@ use Rattle.flt_model.specs.Runs.{breaks}
 use Rattle.flt_model.specs.Steps.{Transition}
 use Rattle.flt_model.specs.declared.moves.JournalEntry.{JournalEntry}
 use Rattle.flt_model.specs.declared.verdict.Verdict.TheVariants.{Legal}
-use Rattle.flt_stack_prepare.specs.ScriptText.{Commands}
+use Rattle.flt_stack_script.specs.ScriptText.{Commands}
 use Rattle.flt_tree.specs.declared.filter.Filter.{Filter}
 
 module _ (loaded trees : List Filter) (named : loaded ≡ trees) (ordered : by_altitude loaded ≡ loaded)

@@ -4,15 +4,15 @@ use Rattle.std.proofs.Common.{◌∷◌, ◌++◌, IsPermutation, length, map, s
 use Rattle.std.proofs.lemmas.List.{append-nil}
 use Rattle.std.proofs.lemmas.List.Sums.{sum_by-cons}
 use Rattle.flt_stack_core.specs.Counting.{callers_in, is_callers, others_in}
-use Rattle.flt_stack_receipts.specs.declared.receipt.Receipt.{Receipt}
+use Rattle.flt_stack_core.specs.declared.receipt.Receipt.{Receipt}
 use Rattle.flt_stack_crew.specs.Following.{IsFollowed}
 use Rattle.flt_stack_crew.specs.Running.{IsEnded}
 use Rattle.flt_stack_crew.specs.declared.ending.Ending.TheVariants.{Whole, Full, Already, Differ}
 use Rattle.flt_model.specs.declared.moves.JournalEntry.{JournalEntry}
-use Rattle.flt_stack_receipts.specs.Bounds.{IsFull}
-use Rattle.flt_stack_receipts.specs.Receipts.{receipts_in, together}
-use Rattle.flt_stack_prepare.specs.ScriptText.{Commands}
-use Rattle.flt_stack_prepare.specs.declared.command.Command.TheVariants.{Detach}
+use Rattle.flt_stack_core.specs.Bounds.{IsFull}
+use Rattle.flt_stack_core.specs.Receipts.{receipts_in, together}
+use Rattle.flt_stack_script.specs.ScriptText.{Commands}
+use Rattle.flt_stack_script.specs.declared.command.Command.TheVariants.{Detach}
 
 -- there are no more entries of others than entries
 others_few : (entries : List JournalEntry) → others_in entries ≤ length entries

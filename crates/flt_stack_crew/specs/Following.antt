@@ -1,8 +1,8 @@
 -- What the seats say of a script that was followed. This project's own rule.
 use Rattle.std.specs.Prelude.{◌≡◌, ◌≤◌, ◌<◌, ℕ, ◌^◌, Bool, true, false, List, length}
 use Rattle.flt_stack_crew.specs.Giving.{AreGiven, AreMade, StopsAtDetach}
-use Rattle.flt_stack_receipts.specs.declared.receipt.Receipt.{Receipt}
-use Rattle.flt_stack_prepare.specs.ScriptText.{Commands}
+use Rattle.flt_stack_core.specs.declared.receipt.Receipt.{Receipt}
+use Rattle.flt_stack_script.specs.ScriptText.{Commands}
 
 -- a count of 64 bits is this sum, where the sum is one of 64 bits
 abbrev pub IsSum : ℕ → ℕ → Type 0

@@ -1,12 +1,12 @@
 -- What a caller keeps of a script's commands. This project's own rule.
 use Rattle.std.specs.Prelude.{◌≡◌, ℕ, true, List, [], ◌∷◌, ◌++◌}
 use Rattle.flt_stack_core.specs.Refusals.{has_altitude}
-use Rattle.flt_stack_receipts.specs.declared.receipt.Receipt.{Receipt}
+use Rattle.flt_stack_core.specs.declared.receipt.Receipt.{Receipt}
 use Rattle.flt_model.specs.declared.moves.Move.{Move}
 use Rattle.flt_model.specs.declared.moves.Move.TheVariants as moves
-use Rattle.flt_stack_prepare.specs.ScriptText.{Commands}
-use Rattle.flt_stack_prepare.specs.declared.command.Command.{Command}
-use Rattle.flt_stack_prepare.specs.declared.command.Command.TheVariants.{Arrive, Cancel, Detach, Refuse}
+use Rattle.flt_stack_script.specs.ScriptText.{Commands}
+use Rattle.flt_stack_script.specs.declared.command.Command.{Command}
+use Rattle.flt_stack_script.specs.declared.command.Command.TheVariants.{Arrive, Cancel, Detach, Refuse}
 use Rattle.flt_tree.specs.declared.filter.Filter.{Filter}
 
 -- the filter that a command detaches, if it detaches one, is one of these

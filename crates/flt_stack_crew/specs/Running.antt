@@ -1,6 +1,6 @@
 -- What a script comes to on some texts. This project's own program.
 use Rattle.std.specs.Prelude.{◌≡◌, ◌≢◌, ◌≤◌, ℕ, List, [], ◌∷◌, ◌++◌, length, None, Result, Ok, Err, IsPermutation}
-use Rattle.flt_stack_receipts.specs.declared.receipt.Receipt.{Receipt}
+use Rattle.flt_stack_core.specs.declared.receipt.Receipt.{Receipt}
 use Rattle.flt_stack_core.specs.Counting.{callers_in, others_in}
 use Rattle.flt_stack_crew.specs.Giving.{AreMade}
 use Rattle.flt_stack_crew.specs.declared.ending.Ending.{Ending}
@@ -17,10 +17,10 @@ use Rattle.flt_model.specs.Steps.{Transition}
 use Rattle.flt_model.specs.Streams.{Text}
 use Rattle.flt_model.specs.declared.moves.JournalEntry.{JournalEntry}
 use Rattle.flt_model.specs.declared.verdict.Verdict.TheVariants.{Legal}
-use Rattle.flt_stack_receipts.specs.Bounds.{IsFull}
-use Rattle.flt_stack_receipts.specs.Receipts.{receipts_in}
-use Rattle.flt_stack_prepare.specs.ScriptText.{Commands}
-use Rattle.flt_stack_prepare.specs.declared.command.Command.TheVariants.{Detach}
+use Rattle.flt_stack_core.specs.Bounds.{IsFull}
+use Rattle.flt_stack_core.specs.Receipts.{receipts_in}
+use Rattle.flt_stack_script.specs.ScriptText.{Commands}
+use Rattle.flt_stack_script.specs.declared.command.Command.TheVariants.{Detach}
 use Rattle.flt_stack.specs.Loading.{IsCount}
 use Rattle.flt_syntax.specs.Texts.{AreSpelled}
 use Rattle.flt_tree.specs.declared.filter.Filter.{Filter}

@@ -9,7 +9,7 @@ use crate::giving::give;
 use crate::stopping::Stop;
 use crate::watch::Watch;
 use crate::working::NoGate;
-use flt_stack_prepare::Script;
+use flt_stack_script::Script;
 use flt_stack_threads::{CallerSeat, Stack, StackName, WorkerSeat};
 use std::alloc::Global;
 use std::sync::Wait;

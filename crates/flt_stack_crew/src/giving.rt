@@ -4,12 +4,12 @@ ghost use Rattle.flt_rules.specs.Place.{fits_mode};
 ghost use Rattle.std.specs.Prelude.{◌≡◌, ◌≢◌, ◌<◌, ◌++◌, true, IsTrue, Err, OnErr, OnOk, length};
 ghost use Rattle.flt_stack_core.specs.Refusals.{has_altitude};
 ghost use Rattle.flt_stack_crew.specs.Giving as spec;
-ghost use Rattle.flt_stack_prepare.specs.ScriptText.{is_command};
+ghost use Rattle.flt_stack_script.specs.ScriptText.{is_command};
 ghost use Rattle.flt_stack_threads.specs.Places.{IsCallerOf, asked_by};
 
 use crate::stopping::Stop;
 use flt_rules::{Mode, Operation};
-use flt_stack_prepare::Command;
+use flt_stack_script::Command;
 use flt_stack_threads::{ArriveFault, CallerSeat, DetachFault, Stack, StackName};
 use std::alloc::Global;
 use std::sync::Wait;

@@ -12,7 +12,7 @@ use crate::stopping::Stop;
 use crate::watch::Watch;
 use crate::working::{NoGate, WorkerEnd, work_in};
 use flt_stack_core::{CallerEntries, Core, Fulls, OtherEntries};
-use flt_stack_prepare::Script;
+use flt_stack_script::Script;
 use flt_stack_threads::sharing::{loaded_is_shared, sent, shared};
 use flt_stack_threads::{CallerSeat, Exchange, Stack, StackName, TurnFault, WorkerSeat};
 use std::alloc::{AllocError, Global};

@@ -6,7 +6,7 @@ ghost use Rattle.flt_stack_crew.specs.Giving.{IsAimed};
 ghost use Rattle.flt_stack_crew.specs.Running as spec;
 ghost use Rattle.flt_model.specs.Expansion.{IsCleanRun};
 ghost use Rattle.flt_model.specs.JournalText as journal;
-ghost use Rattle.flt_stack_prepare.specs.ScriptText.{Commands};
+ghost use Rattle.flt_stack_script.specs.ScriptText.{Commands};
 ghost use Rattle.flt_stack_threads.specs.Places.{IsCallerOf, IsWorkerOf, asked_by};
 
 use crate::ending::Ending;
@@ -15,7 +15,8 @@ use crate::watch::Watch;
 use crate::{alone, joining};
 use flt_model::{Journal, journal_bytes, legal_journals_are_clean_runs};
 use flt_stack::Loaded;
-use flt_stack_prepare::{PreparedRun, RunFault, Script, prepare};
+use flt_stack_prepare::{PreparedRun, RunFault, prepare};
+use flt_stack_script::Script;
 use flt_stack_threads::{Blanks, CallerSeat, Differ, Stack, StackName, WorkerSeat};
 use std::alloc::{AllocError, Global};
 use std::marker::Brand;

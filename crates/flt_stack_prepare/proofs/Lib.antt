@@ -1,5 +1,3 @@
-mod CommandLaws
-mod ScriptLaws
 pub mod Answered
 pub mod Firsts
 pub mod Preparation

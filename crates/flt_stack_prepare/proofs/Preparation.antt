@@ -5,7 +5,7 @@ use Rattle.flt_stack_prepare.specs.Texts.{HaveCertificates}
 use Rattle.flt_stack_prepare.specs.declared.fault.RunFault.{RunFault}
 use Rattle.flt_stack_prepare.specs.declared.fault.RunFault.TheVariants as fault
 use Rattle.flt_model.specs.Streams.{Text}
-use Rattle.flt_stack_prepare.specs.ScriptText.{Commands}
+use Rattle.flt_stack_script.specs.ScriptText.{Commands}
 use Rattle.flt_stack.specs.Loading.{IsCount}
 use Rattle.flt_syntax.specs.Texts.{AreSpelled}
 use Rattle.flt_tree.specs.declared.filter.Filter.{Filter}

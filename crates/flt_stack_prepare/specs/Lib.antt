@@ -1,4 +1,3 @@
 pub mod Certified
 pub mod Preparing
-pub mod ScriptText
 pub mod Texts

@@ -5,7 +5,7 @@ use Rattle.flt_stack_prepare.specs.declared.fault.RunFault.{RunFault}
 use Rattle.flt_stack_prepare.specs.declared.fault.RunFault.TheVariants as fault
 use Rattle.flt_model.specs.Program.{HasDistinctAltitudes, IsRepeated, by_altitude}
 use Rattle.flt_model.specs.Streams.{Text}
-use Rattle.flt_stack_prepare.specs.ScriptText.{Commands, IsFirstFault, is_script, spelling}
+use Rattle.flt_stack_script.specs.ScriptText.{Commands, IsFirstFault, is_script, spelling}
 use Rattle.flt_stack.specs.Loading.{IsCount, max_files}
 use Rattle.flt_syntax.specs.Texts.{AreSpelled, IsSyntaxFault}
 use Rattle.flt_tree.specs.declared.filter.Filter.{Filter}

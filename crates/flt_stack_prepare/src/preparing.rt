@@ -9,14 +9,12 @@ ghost use Rattle.flt_stack.specs.Lowered.{AreCertificates, AreCovered};
 
 use crate::certified::certify_all;
 use crate::fault::RunFault;
-use crate::reader::read;
-use crate::script::Script;
-use crate::script_fault::ScriptFault;
 use flt_cert::Cert;
 use flt_check::accepted_certificates_fill_up;
 use flt_graph::Graph;
 use flt_rules::MAX_FILTERS;
 use flt_stack::{LoadFault, Loaded, load_lowered};
+use flt_stack_script::{Script, ScriptFault, read};
 use flt_syntax::{parse_all, spelled_is_well_formed};
 use flt_tree::Tree;
 use std::alloc::{AllocError, Global};

@@ -2,13 +2,9 @@
 ghost use Rattle.std.specs.Prelude.{◌≡◌, ◌+◌, ◌<◌, ◌≤◌, All};
 ghost use Rattle.flt_stack_threads.specs.Places.{IsCallerOf, IsFreshCaller, IsFreshWorker, IsWorkerOf};
 
-use crate::dice::Dice;
-use crate::filters::{
-    DEFERS, DRAINED, Filter, HIGH, LOW, PASSES_ALONE, PENDS, PENDS_ALONE, SHARES, STREAMS_ALONE,
-    WORKS, loaded,
-};
+use crate::filters::{Filter, PASSES_ALONE, PENDS_ALONE, loaded};
 use crate::fixture::{Ended, finished};
-use crate::journals::{Tally, is_legal, tally_of};
+use crate::journals::{is_legal, tally_of};
 use flt_rules::{Mode, Operation};
 use flt_stack::Loaded;
 use flt_stack_core::{CallerEntries, Core, Fulls, OtherEntries};
@@ -34,10 +30,6 @@ struct Plan {
     cancels: bool,
     /// Whether the first two workers wait for one another, once all callers have gone.
     meets: bool,
-    /// If it isn't 0, the calls of each caller and the pauses of workers are derived from it.
-    seed: u64,
-    /// The altitudes of the filters that are detached then, each by a caller of its own.
-    detaches: &'static [u32],
 }
 
 /// The progress of the threads.
@@ -46,9 +38,6 @@ struct Course {
     plan: Plan,
     came: AtomicU64,
     gone: AtomicU64,
-    /// The number of reads that were to arrive, and the number of filters that were to be detached.
-    arrivals: AtomicU64,
-    detaches: AtomicU64,
     first_of_one: AtomicBool,
     second_of_zero: AtomicBool,
     missed: AtomicBool,
@@ -62,8 +51,6 @@ impl Course {
             plan,
             came: AtomicU64::new(0),
             gone: AtomicU64::new(0),
-            arrivals: AtomicU64::new(0),
-            detaches: AtomicU64::new(0),
             first_of_one: AtomicBool::new(false),
             second_of_zero: AtomicBool::new(false),
             missed: AtomicBool::new(false),
@@ -101,18 +88,6 @@ impl Course {
     }
 }
 
-/// Lets the others run for a while, mostly not at all, and sometimes for long.
-fn pause(seed: u64, worker: usize) {
-    let rounds = match Dice::of(seed, worker as u64).roll(16) {
-        0 => 50,
-        1..=3 => 2,
-        _ => 0,
-    };
-    for _ in 0..rounds {
-        thread::yield_now();
-    }
-}
-
 /// The gate that a worker passes. Of two that meet, each waits in its first change: worker 0 until worker 1 is in its own, and worker 1
 /// until worker 0 comes to its second.
 #[derive(Drop)]
@@ -125,9 +100,6 @@ impl<'a> Gate for Side<'a> {
     fn before(&mut self, worker: usize, n: u64) {
         self.passed = true;
         let course = self.course;
-        if course.plan.seed != 0 {
-            pause(course.plan.seed.wrapping_add(n), worker);
-        }
         if !course.plan.meets {
             return;
         }
@@ -173,81 +145,6 @@ fn call<N: StackName, R: Wait>(
     }
 }
 
-/// Lets a read arrive, and counts it.
-fn let_arrive<N: StackName, R: Wait>(
-    rt: &R,
-    alloc: Global,
-    stack: &Stack<N>,
-    course: &Course,
-    seat: &mut CallerSeat<N>,
-)
-    requires { IsCallerOf stack.now.exchange seat.old.place }
-    ensures { IsCallerOf stack.now.exchange seat.new.place }
-{
-    course.arrivals.fetch_add(1, Ordering::SeqCst);
-    let _ = stack.arrive(rt, alloc, seat, Operation::Read, Mode::Irp, 0);
-}
-
-/// Detaches a filter, and counts it.
-fn let_detach<N: StackName, R: Wait>(
-    rt: &R,
-    alloc: Global,
-    stack: &Stack<N>,
-    course: &Course,
-    seat: &mut CallerSeat<N>,
-    altitude: u32,
-)
-    requires { IsCallerOf stack.now.exchange seat.old.place }
-    ensures { IsCallerOf stack.now.exchange seat.new.place }
-{
-    course.detaches.fetch_add(1, Ordering::SeqCst);
-    let _ = stack.detach(rt, alloc, seat, altitude);
-}
-
-/// Makes a call at random: three of four let a read arrive, and the others cancel a read with an odd number.
-fn call_once<N: StackName, R: Wait>(
-    rt: &R,
-    alloc: Global,
-    stack: &Stack<N>,
-    course: &Course,
-    seat: &mut CallerSeat<N>,
-    dice: &mut Dice,
-)
-    requires { IsCallerOf stack.now.exchange seat.old.place }
-    ensures { IsCallerOf stack.now.exchange seat.new.place }
-{
-    if dice.roll(4) == 0 {
-        stack.cancel(seat, 2 * dice.roll(400) + 1);
-    } else {
-        let_arrive(rt, alloc, stack, course, seat);
-    }
-}
-
-/// Makes calls at random. A caller detaches a filter in their midst, if one is its own, and at the end cancels the read with the number 1.
-fn call_at_random<N: StackName, R: Wait>(
-    rt: &R,
-    alloc: Global,
-    stack: &Stack<N>,
-    course: &Course,
-    seat: &mut CallerSeat<N>,
-    caller: u64,
-)
-    requires { IsCallerOf stack.now.exchange seat.old.place }
-{
-    let mut dice = Dice::of(course.plan.seed, caller);
-    let own = course.plan.detaches.get(caller as usize).copied();
-    let moment = dice.roll(course.plan.reads);
-    for k in 0..course.plan.reads {
-        if let Some(altitude) = own {
-            if k == moment {
-                let_detach(rt, alloc, stack, course, seat, altitude);
-            }
-        }
-        call_once(rt, alloc, stack, course, seat, &mut dice);
-    }
-    stack.cancel(seat, 1);
-}
-
 /// The thread of a caller, which makes its calls and goes.
 fn take_part<N: StackName, R: Wait>(
     rt: &R,
@@ -259,11 +156,7 @@ fn take_part<N: StackName, R: Wait>(
     requires { IsCallerOf stack.now.exchange seat.place × IsFreshCaller seat.place }
 {
     let place = course.came.fetch_add(1, Ordering::SeqCst);
-    if course.plan.seed == 0 {
-        call(rt, alloc, stack, &mut seat, course.plan, (place % 8) as u32);
-    } else {
-        call_at_random(rt, alloc, stack, course, &mut seat, place);
-    }
+    call(rt, alloc, stack, &mut seat, course.plan, (place % 8) as u32);
     course.gone.fetch_add(1, Ordering::SeqCst);
     seat
 }
@@ -438,38 +331,12 @@ fn two_workers_at_once(rt: HostRuntime) -> Result<(), Fail> {
         reads: 2,
         cancels: false,
         meets: true,
-        seed: 0,
-        detaches: &[],
     });
     let ended = follow(&rt, rt.alloc(), loaded(rt.alloc(), &PASSES_ALONE)?, &course)?;
     let fine = are_lowered(rt.alloc(), &PASSES_ALONE, &ended, 2);
     drop(ended);
     assert!(rt; course.second_of_zero.load(Ordering::SeqCst));
     assert!(rt; !course.missed.load(Ordering::SeqCst));
-    assert!(rt; fine?);
-    Ok(())
-}
-
-/// Four workers, while 200 reads arrive.
-#[test]
-fn four_workers_lower_what_arrives(rt: HostRuntime) -> Result<(), Fail> {
-    let course = Course::new(Plan {
-        callers: 1,
-        workers: 4,
-        reads: 200,
-        cancels: false,
-        meets: false,
-        seed: 0,
-        detaches: &[],
-    });
-    let ended = follow(
-        &rt,
-        rt.alloc(),
-        loaded(rt.alloc(), &STREAMS_ALONE)?,
-        &course,
-    )?;
-    let fine = are_lowered(rt.alloc(), &STREAMS_ALONE, &ended, 200);
-    drop(ended);
     assert!(rt; fine?);
     Ok(())
 }
@@ -497,118 +364,10 @@ fn eight_callers_beside_four_workers(rt: HostRuntime) -> Result<(), Fail> {
         reads: 100,
         cancels: true,
         meets: false,
-        seed: 0,
-        detaches: &[],
     });
     let ended = follow(&rt, rt.alloc(), loaded(rt.alloc(), &PENDS_ALONE)?, &course)?;
     let fine = are_cancelled(rt.alloc(), &ended);
     drop(ended);
     assert!(rt; fine?);
-    Ok(())
-}
-
-/// Filters, and the altitudes of those that are detached.
-#[derive(Clone, Copy)]
-struct Driven {
-    filters: &'static [Filter],
-    detaches: &'static [u32],
-}
-
-/// The number of stacks that are driven at random.
-const STACKS: usize = 5;
-
-static DRIVEN: [Driven; STACKS] = [
-    // Reads wait in a queue that stays, so one with the number 1 is cancelled.
-    Driven {
-        filters: &[PENDS],
-        detaches: &[],
-    },
-    Driven {
-        filters: &[HIGH, LOW],
-        detaches: &[100, 200],
-    },
-    Driven {
-        filters: &[DRAINED, PENDS],
-        detaches: &[200, 100],
-    },
-    Driven {
-        filters: &[DEFERS, SHARES, WORKS],
-        detaches: &[200, 100, 300],
-    },
-    Driven {
-        filters: &[DRAINED, WORKS],
-        detaches: &[200],
-    },
-];
-
-/// The plan of a seed. The first has as many callers and workers as there may be.
-fn drawn(seed: u64, detaches: &'static [u32]) -> Plan
-    ensures callers { (1 ≤ result.callers) × (result.callers ≤ 16) }
-    ensures workers { (1 ≤ result.workers) × (result.workers ≤ 16) }
-{
-    let mut dice = Dice::of(seed, 0);
-    let (callers, workers) = if seed == 1 {
-        (15, 14)
-    } else {
-        (dice.roll(16), dice.roll(15))
-    };
-    Plan {
-        callers: 1 + callers as usize,
-        workers: 2 + workers as usize,
-        reads: 10 + dice.roll(30),
-        cancels: true,
-        meets: false,
-        seed,
-        detaches,
-    }
-}
-
-/// Whether a journal has the callers' requests, and nothing else: all reads arrived, each requested filter was detached, and only reads
-/// with odd numbers were cancelled, at least one of them if no filter is detached.
-fn is_as_asked(course: &Course, tally: Tally) -> bool {
-    let waits = course.plan.detaches.is_empty();
-    u64::from(tally.arrived) == course.arrivals.load(Ordering::SeqCst)
-        && u64::from(tally.detached) == course.detaches.load(Ordering::SeqCst)
-        && tally.all_odd
-        && (tally.cancelled > 0 || !waits)
-}
-
-/// Whether a crowd at random has made a legal run of its callers' requests, which agrees with their receipts.
-fn goes_at_random<R: Threads + Wait + Sync>(
-    rt: &R,
-    alloc: Global,
-    driven: Driven,
-    seed: u64,
-) -> Result<bool, Fail> {
-    let course = Course::new(drawn(seed, driven.detaches));
-    let ended = follow(rt, alloc, loaded(alloc, driven.filters)?, &course)?;
-    let fine = ended.agrees && is_as_asked(&course, tally_of(&ended.journal));
-    let legal = is_legal(alloc, driven.filters, &ended.journal);
-    drop(ended);
-    Ok(legal? && fine)
-}
-
-/// The first seed for which that fails, of this many.
-fn wrong_seed<R: Threads + Wait + Sync>(
-    rt: &R,
-    alloc: Global,
-    table: &[Driven],
-    seeds: u64,
-) -> Result<Option<u64>, Fail> {
-    for seed in 0..seeds {
-        if let Some(driven) = table.get(seed as usize % STACKS) {
-            if !goes_at_random(rt, alloc, *driven, seed + 1)? {
-                return Ok(Some(seed));
-            }
-        }
-    }
-    Ok(None)
-}
-
-/// Ten crowds of up to 16 callers and 16 workers, whose calls and pauses are derived from their seeds. The system chooses how the threads
-/// meet; the assertions about the journals hold for each choice.
-#[test]
-fn crowds_at_random_do_what_they_are_asked(rt: HostRuntime) -> Result<(), Fail> {
-    assert!(rt; wrong_seed(&rt, rt.alloc(), &DRIVEN, 10)?.is_none());
     Ok(())
 }

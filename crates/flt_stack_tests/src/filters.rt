@@ -15,28 +15,6 @@ pub(crate) struct Filter {
 /// The certificate of one callback, which returns a status.
 const ONE_STATUS: &str = "fltcert 1\ncallback 0 2\n0 111111111 11112 3 1 -\n1 !\nend\n";
 
-/// The certificate of a callback that returns a status, and of a post callback that releases its context.
-const WITH_POST: &str =
-    "fltcert 1\ncallback 0 2\n0 111111111 11112 3 1 -\n1 !\ncallback 1 4\n0 111111113 11112 3 3 -\n1 111111112 11112 3 3 -\n2 111111115 11112 3 3 -\n3 !\nend\n";
-
-/// Passes reads on, and looks at them as they come back up.
-pub(crate) const HIGH: Filter = Filter {
-    text: "filter high altitude 200\npre read {\nreturn WITH_CALLBACK\n}\npost read {\nif arg != NULL {\nFltReleaseContext arg\n}\nreturn FINISHED_PROCESSING\n}\n",
-    certificate: WITH_POST,
-};
-
-/// The same below it.
-pub(crate) const LOW: Filter = Filter {
-    text: "filter low altitude 100\npre read {\nreturn WITH_CALLBACK\n}\npost read {\nif arg != NULL {\nFltReleaseContext arg\n}\nreturn FINISHED_PROCESSING\n}\n",
-    certificate: WITH_POST,
-};
-
-/// Denies reads.
-pub(crate) const DENIES: Filter = Filter {
-    text: "filter low altitude 100\npre read {\nreturn COMPLETE STATUS_ACCESS_DENIED\n}\n",
-    certificate: ONE_STATUS,
-};
-
 /// Passes reads on.
 pub(crate) const PASSES: Filter = Filter {
     text: "filter a altitude 100\npre read {\nreturn NO_CALLBACK\n}\n",
@@ -47,18 +25,6 @@ pub(crate) const PASSES: Filter = Filter {
 pub(crate) const PENDS: Filter = Filter {
     text: "filter q altitude 100\nqueue\npre read {\nif irp data {\nif FltCbdqInsertIo data {\nreturn PENDING\n}\n}\nreturn NO_CALLBACK\n}\ncanceled {\nif arg != NULL {\nFltReleaseContext arg\n}\nFltCompletePendedPreOperation data COMPLETE STATUS_CANCELLED\n}\n",
     certificate: "fltcert 1\ncallback 0 5\n0 111111111 11112 3 1 -\n1 111111111 11112 1 1 -\n2 111111111 11114 1 1 -\n3 111111111 11112 3 1 -\n4 !\ncallback 1 4\n0 111111113 11112 1 1 -\n1 111111112 11112 1 1 -\n2 111111115 11112 1 1 -\n3 111111115 11114 1 1 -\nend\n",
-};
-
-/// Keeps a context for each stream.
-pub(crate) const STREAMS: Filter = Filter {
-    text: "filter a altitude 100\npre read {\nif FltGetStreamContext c0 {\n} else {\nif FltAllocateContext c0 {\nif FltSetStreamContext KEEP_IF_EXISTS c0 old c1 {\n}\nif c1 != NULL {\nFltReleaseContext c1\n}\n}\n}\nif c0 != NULL {\nFltReleaseContext c0\n}\nreturn NO_CALLBACK\n}\n",
-    certificate: "fltcert 1\ncallback 0 9\n0 111111111 11112 3 1 -\n1 111111111 11112 3 1 -\n2 211111111 11112 3 1 -\n3 231111111 11112 3 1 -\n4 221111111 11112 3 1 -\n5 351111111 11112 3 1 -\n6 251111111 11112 3 1 -\n7 551111111 11112 3 1 -\n8 !\nend\n",
-};
-
-/// Allocates twice.
-pub(crate) const ALLOCATES_TWICE: Filter = Filter {
-    text: "filter a altitude 100\npre read {\nif FltAllocateContext c0 {\nFltReleaseContext c0\n}\nif FltAllocateContext c0 {\n}\nif c0 != NULL {\nFltReleaseContext c0\n}\nreturn NO_CALLBACK\n}\n",
-    certificate: "fltcert 1\ncallback 0 7\n0 111111111 11112 3 1 -\n1 211111111 11112 3 1 -\n2 511111111 11112 3 1 -\n3 311111111 11112 3 1 -\n4 211111111 11112 3 1 -\n5 511111111 11112 3 1 -\n6 !\nend\n",
 };
 
 /// Gives each stream that is read a context, and the read too. It is drained if it is detached before the read is back.
@@ -90,9 +56,6 @@ pub(crate) static PASSES_ALONE: [Filter; 1] = [PASSES];
 
 /// One that keeps reads in its queue, alone.
 pub(crate) static PENDS_ALONE: [Filter; 1] = [PENDS];
-
-/// One that keeps a context for each stream, alone.
-pub(crate) static STREAMS_ALONE: [Filter; 1] = [STREAMS];
 
 /// Loads filters, each by its certificate.
 pub(crate) fn loaded(alloc: Global, filters: &[Filter]) -> Result<Loaded, LoadFault> {

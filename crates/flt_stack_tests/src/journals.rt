@@ -38,8 +38,6 @@ pub(crate) struct Tally {
     pub(crate) arrived: u32,
     pub(crate) lowered: u32,
     pub(crate) cancelled: u32,
-    /// Filters that were detached.
-    pub(crate) detached: u32,
     /// Whether each serial number that was cancelled is odd.
     pub(crate) all_odd: bool,
 }
@@ -49,7 +47,6 @@ pub(crate) fn tally_of(journal: &Journal) -> Tally {
         arrived: 0,
         lowered: 0,
         cancelled: 0,
-        detached: 0,
         all_odd: true,
     };
     for entry in journal.entries() {
@@ -62,9 +59,6 @@ fn count(tally: &mut Tally, entry: JournalEntry) {
     match entry {
         JournalEntry::Move(Move::Arrive { .. }) => tally.arrived = tally.arrived.wrapping_add(1),
         JournalEntry::Move(Move::Lower { .. }) => tally.lowered = tally.lowered.wrapping_add(1),
-        JournalEntry::Move(Move::Detached { .. }) => {
-            tally.detached = tally.detached.wrapping_add(1);
-        }
         JournalEntry::Move(Move::Cancel { serial }) => {
             tally.cancelled = tally.cancelled.wrapping_add(1);
             tally.all_odd = tally.all_odd && serial % 2 == 1;

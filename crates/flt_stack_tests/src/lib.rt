@@ -1,5 +1,5 @@
-//! Tests of what threads share: the running stack, by scripts of one worker and in threads of its own, the cancel pads, the exchange of
-//! tickets, and analyses side by side. They alone start threads.
+//! Tests of what threads share: the running stack, by steps that are refused memory and in threads of its own, the cancel pads, the exchange
+//! of tickets, and analyses side by side. They alone start threads.
 #![tactic(auto)]
 
 #[cfg(test)]
@@ -8,8 +8,6 @@ mod analyses;
 mod cancel_pads;
 #[cfg(test)]
 mod crowds;
-#[cfg(test)]
-mod dice;
 #[cfg(test)]
 mod filters;
 #[cfg(test)]

@@ -1,13 +1,9 @@
-//! Tickets that one thread puts and takes, in order, and tickets that three workers take.
-ghost use Rattle.std.specs.Prelude.{◌≡◌, All};
+//! Tickets that one thread puts and takes, in order.
 ghost use Rattle.flt_pool.specs.Seats.{IsPutSeatOf, IsTakeSeatOf};
 
 use flt_pool::{Pool, PutSeat, TakeSeat, Ticket};
-use std::alloc::AllocError;
 use std::sync::Wait;
 use std::test::*;
-use std::thread;
-use std::thread::Threads;
 
 /// An entry's ticket.
 const ENTRY: Ticket = Ticket::Entry {
@@ -79,115 +75,5 @@ fn takes_the_own_deque_then_the_injector_then_steals(rt: HostRuntime) -> Result<
     );
     assert!(rt; takes(&rt, &pool, &mut worker, &TAKEN));
     assert!(rt; takes(&rt, &pool, &mut other, &[]));
-    Ok(())
-}
-
-/// The number of words of the operations below 2,000.
-const WORDS: usize = 32;
-
-/// The tickets taken: a bit for each operation, and their number in all.
-#[derive(Drop)]
-struct Taken {
-    words: [u64; WORDS],
-    count: u64,
-}
-
-/// Puts the operations from 0 to 1,399 into the injector. Returns how many were given back.
-fn put_most<R: Wait>(rt: &R, pool: &Pool, seat: &mut PutSeat) -> u32
-    requires { IsPutSeatOf pool.now seat.old }
-    ensures { IsPutSeatOf pool.now seat.new }
-{
-    let mut refused: u32 = 0;
-    for n in 0..1400u32 {
-        if pool.put(rt, seat, Ticket::Operation(n)).is_err() {
-            refused = refused.wrapping_add(1);
-        }
-    }
-    refused
-}
-
-/// Pushes the operations from 1,400 to 1,999 onto the seat's own deque. Returns how many were given back.
-fn push_rest(pool: &Pool, seat: &mut TakeSeat) -> u32
-    requires { IsTakeSeatOf pool.now seat.old }
-    ensures { IsTakeSeatOf pool.now seat.new }
-{
-    let mut refused: u32 = 0;
-    for n in 1400..2000u32 {
-        if seat.push(Ticket::Operation(n)).is_err() {
-            refused = refused.wrapping_add(1);
-        }
-    }
-    refused
-}
-
-/// Takes this many times.
-fn take_often<R: Wait>(rt: &R, pool: &Pool, seat: &mut TakeSeat, rounds: u32) -> Taken
-    requires { IsTakeSeatOf pool.now seat.old }
-    ensures { IsTakeSeatOf pool.now seat.new }
-{
-    let mut taken = Taken {
-        words: [0; WORDS],
-        count: 0,
-    };
-    for _ in 0..rounds {
-        if let Some(Ticket::Operation(n)) = pool.take(rt, seat) {
-            taken.words[(n / 64 % 32) as usize] |= 1u64 << (n % 64);
-            taken.count = taken.count.wrapping_add(1);
-        }
-    }
-    taken
-}
-
-fn take_part<R: Wait>(rt: &R, pool: &Pool, mut seat: TakeSeat) -> Taken
-    requires { IsTakeSeatOf pool.now seat }
-{
-    take_often(rt, pool, &mut seat, 900)
-}
-
-fn share<R: Threads + Wait + Sync>(
-    rt: &R,
-    pool: &Pool,
-    seats: Vec<TakeSeat>,
-) -> Result<Vec<Taken>, AllocError>
-    requires { All (λ seat. IsTakeSeatOf pool.now seat) seats.items }
-{
-    thread::map_vec(rt, seats, &|seat| take_part(rt, pool, seat))
-}
-
-fn add_up(shares: Vec<Taken>, all: &mut Taken) {
-    for taken in shares {
-        for word in 0..WORDS {
-            all.words[word] |= taken.words[word];
-        }
-        all.count = all.count.wrapping_add(taken.count);
-    }
-}
-
-/// Whether each of the 2,000 operations was taken once.
-fn is_each_once(all: &Taken) -> bool {
-    for word in 0..31 {
-        if all.words[word] != u64::MAX {
-            return false;
-        }
-    }
-    all.words[31] == 65535 && all.count == 2000
-}
-
-/// Two workers take from the injector and from a third one's deque, and the third takes what they leave: 2,000 tickets, each once.
-#[test]
-fn workers_take_each_ticket_once(rt: HostRuntime) -> Result<(), Fail> {
-    let (pool, mut callers, mut workers) = Pool::open(rt.alloc(), 1, 3)?;
-    let Some(mut caller) = callers.pop() else {
-        panic!(rt; "a caller's seat")
-    };
-    let Some(mut last) = workers.pop() else {
-        panic!(rt; "a worker's seat")
-    };
-    assert!(rt; put_most(&rt, &pool, &mut caller) == 0);
-    assert!(rt; push_rest(&pool, &mut last) == 0);
-    let shares = share(&rt, &pool, workers)?;
-    let mut all = take_often(&rt, &pool, &mut last, 2001);
-    add_up(shares, &mut all);
-    assert!(rt; is_each_once(&all));
     Ok(())
 }

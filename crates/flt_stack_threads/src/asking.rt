@@ -4,7 +4,7 @@ ghost use Rattle.std.specs.Prelude.{◌≡◌, ◌≢◌, ◌≤◌, ◌⊎◌, 
 ghost use Rattle.std.specs.Prelude.{length, is_some, Err, IfErr, IfOk, IfSome, None, OnErr, OnOk, Some};
 ghost use Rattle.std.specs.BTreeSet.{insert_key};
 ghost use Rattle.std.specs.Ordering.{nat_cmp};
-ghost use Rattle.flt_stack_receipts.specs.Receipts.{receipt};
+ghost use Rattle.flt_stack_core.specs.Receipts.{receipt};
 ghost use Rattle.flt_stack_core.specs.Refusals as refusals;
 ghost use Rattle.flt_stack_core.specs.declared.fault.ArriveFault.TheVariants as arrive_fault;
 ghost use Rattle.flt_stack_core.specs.declared.fault.DetachFault.TheVariants as detach_fault;

@@ -1,11 +1,10 @@
 //! The end of a stack: the seats' shares, put together, and whether their receipts are the journal's.
 ghost use Rattle.std.specs.Prelude.{◌≡◌, ◌↔◌, ◌+◌, IsPermutation, IsTrue, map, sum_by};
-ghost use Rattle.flt_stack_receipts.specs.Receipts.{receipts_in, together};
+ghost use Rattle.flt_stack_core.specs.Receipts.{receipts_in, together};
 
 use crate::seats::{CallerSeat, WorkerSeat};
 use flt_model::Journal;
-use flt_stack_core::{CallerEntries, Core, Fulls, OtherEntries, StackName};
-use flt_stack_receipts::agree;
+use flt_stack_core::{CallerEntries, Core, Fulls, OtherEntries, StackName, agree};
 use std::sync::ledger::Share;
 
 /// The journal of a stack whose callers' receipts together aren't the journal's.

@@ -6,8 +6,7 @@ use crate::places::{CallerPlace, WorkerPlace};
 use crate::requests::Requests;
 use crate::round::Round;
 use crate::waiting::Waiting;
-use flt_stack_core::{Fulls, OtherEntries, Receipt, Receipts, StackName};
-use flt_stack_receipts::HoldsReceipts;
+use flt_stack_core::{Fulls, HoldsReceipts, OtherEntries, Receipt, Receipts, StackName};
 use std::sync::ledger::Share;
 
 /// A caller's seat: its place at the exchange of the stack that gave it, the receipts of its arrivals and detaches, with its share of the

@@ -1,65 +1,9 @@
-//! Streams of journals that fail at each of their calls. Texts that are no journals are in `examples/cases/journals.cases`, and others in
-//! `examples/verdicts/` with their verdicts.
+//! Journals that are written where each call of the writer fails, one a time. `tools/fail-streams` has the program read where calls fail. Texts
+//! that are no journals are in `examples/cases/journals.cases`, and others in `examples/verdicts/` with their verdicts.
 
-use flt_model::{
-    Journal, JournalFault, ReadFault, Reading, Sink, Source, WriteFault, Writing, read, write,
-};
-use std::alloc::{AllocError, Global};
+use flt_model::{Journal, JournalFault, Reading, Sink, WriteFault, Writing, read, write};
+use std::alloc::Global;
 use std::test::Fail;
-
-/// A reader of these bytes that has none at hand. It fails at a call, counted from 0.
-#[derive(Drop)]
-struct Given<'a> {
-    left: &'a [u8],
-    calls: u64,
-    fails_at: Option<u64>,
-    failures: u64,
-}
-
-impl<'a> Given<'a> {
-    fn new(bytes: &'a [u8], fails_at: Option<u64>) -> Given<'a> {
-        Given {
-            left: bytes,
-            calls: 0,
-            fails_at,
-            failures: 0,
-        }
-    }
-}
-
-impl Source for Given<'_> {
-    ghost use Rattle.std.specs.Prelude.{[]};
-
-    ghost coming = { λ s. s.left.now };
-
-    ghost at_hand = { λ _. [] };
-
-    ghost failures = { λ s. s.failures };
-
-    ghost reads = { λ s. s.calls };
-
-    fn next(&mut self) -> Result<Option<u8>, ReadFault> {
-        let call = self.calls;
-        self.calls = call.saturating_add(1);
-        if self.fails_at == Some(call) {
-            self.failures = self.failures.wrapping_add(1);
-            return Err(ReadFault);
-        }
-        match self.left {
-            [first, others @ ..] => {
-                self.left = others;
-                Ok(Some(*first))
-            }
-            [] => Ok(None),
-        }
-    }
-
-    fn ready(&self) -> &[u8] {
-        &[]
-    }
-
-    fn pass(&mut self, _count: usize) {}
-}
 
 /// A writer that keeps what it takes, one byte at a time, and fails at a call, counted from 0.
 #[derive(Drop)]
@@ -104,39 +48,6 @@ impl Sink for Kept {
 const EACH_KIND: &str =
     "fltjournal 1\narrive create irp 0\narrive cleanup fast 4294967295\narrive write fast 10\npre 4294967295\nskip 1\nlower 2\npost 3\ncancel 4\ncanceled 5 6\nwork 7\ndetach 8\ndrain 9 10\nunlink 11 stream 12\nunlink 13 instance\ndetached 14\ngo 15 16 no\ngo 4294967295 4294967295 yes\nend\n";
 
-fn read_text(alloc: Global, text: &[u8]) -> Result<Journal, JournalFault> {
-    read(alloc, &mut Given::new(text, None))
-}
-
-/// Whether reading stops at the first malformed byte: a failure after it doesn't occur.
-fn stops_at_a_wrong_byte(alloc: Global) -> bool {
-    let mut reader = Given::new(b"fltjournal 1\npre 0x", Some(19));
-    matches!(read(alloc, &mut reader), Err(JournalFault::Line(2)))
-        && reader.calls == 19
-        && reader.failures == 0
-}
-
-/// Whether a failure of the reader at this call is reported, and no failure if there are fewer calls.
-fn read_is_told(alloc: Global, text: &[u8], call: u64, fails: bool) -> bool {
-    let mut reader = Given::new(text, Some(call));
-    match read(alloc, &mut reader) {
-        Ok(_) => !fails && reader.failures == 0,
-        Err(JournalFault::Read) => fails && reader.failures == 1,
-        Err(_) => false,
-    }
-}
-
-/// The first call at which a failure of a reader isn't reported. A journal of n bytes takes n reads, and one that finds the end.
-fn wrong_read(alloc: Global, text: &[u8]) -> Option<u64> {
-    let last = text.len() as u64;
-    for call in 0..last + 2 {
-        if !read_is_told(alloc, text, call, call <= last) {
-            return Some(call);
-        }
-    }
-    None
-}
-
 /// Whether a failure of the writer at this call is reported, and no failure if there are fewer calls.
 fn write_is_told(alloc: Global, journal: &Journal, call: u64, fails: bool) -> bool {
     let mut out = Kept::new(alloc, Some(call));
@@ -146,7 +57,7 @@ fn write_is_told(alloc: Global, journal: &Journal, call: u64, fails: bool) -> bo
 
 /// The first call at which a failure of a writer isn't reported. A journal of n bytes takes n writes of a byte.
 fn wrong_write(alloc: Global, text: &[u8]) -> Result<Option<u64>, JournalFault> {
-    let journal = read_text(alloc, text)?;
+    let journal = read(alloc, &mut Reading::new(text))?;
     let last = text.len() as u64;
     for call in 0..last + 1 {
         if !write_is_told(alloc, &journal, call, call < last) {
@@ -164,10 +75,8 @@ fn goes_through_std(alloc: Global, text: &[u8]) -> Result<bool, JournalFault> {
 }
 
 #[test]
-fn failing_streams_are_told(rt: HostRuntime) -> Result<(), Fail> {
+fn failing_writers_are_told(rt: HostRuntime) -> Result<(), Fail> {
     assert!(rt; goes_through_std(rt.alloc(), EACH_KIND.as_bytes())?);
-    assert!(rt; stops_at_a_wrong_byte(rt.alloc()));
-    assert!(rt; wrong_read(rt.alloc(), EACH_KIND.as_bytes()).is_none());
     assert!(rt; wrong_write(rt.alloc(), EACH_KIND.as_bytes())?.is_none());
     Ok(())
 }

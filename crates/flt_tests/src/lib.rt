@@ -1,28 +1,22 @@
-//! Tests of the crates that read, write, keep and search, for behaviour that no run of the program shows: calls beside a plain program,
-//! streams that fail, and reports to a watcher. They are apart from those crates, so that no crate with code is proved twice.
+//! Tests of what no run of the program shows: the board at every moment of worked runs and whenever memory is refused, which tickets its moves
+//! give, and calls that the program doesn't make. They are apart from the crates that they test, so that none is proved twice.
 #![tactic(auto)]
 
 #[cfg(test)]
-mod contexts;
-#[cfg(test)]
-mod dice;
+mod filling;
 #[cfg(test)]
 mod journals;
-#[cfg(test)]
-mod layouts;
 #[cfg(test)]
 mod lists;
 #[cfg(test)]
 mod loading;
 #[cfg(test)]
-mod operations;
+mod moments;
 #[cfg(test)]
-mod pairs;
+mod printing;
 #[cfg(test)]
-mod queues;
+mod scene;
 #[cfg(test)]
-mod searches;
+mod texts;
 #[cfg(test)]
-mod thin;
-#[cfg(test)]
-mod words;
+mod tickets;

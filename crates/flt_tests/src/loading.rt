@@ -67,7 +67,7 @@ const COUNT: Answer = ("count", 0, 0, 0);
 
 /// Files, and the answers for them. The faults come in their order: a file's text before its certificate, an earlier file's before a later
 /// one's, and equal altitudes last.
-const CASES: [(&[File<'static>], Answer); 13] = [
+static CASES: [(&[File<'static>], Answer); 13] = [
     (&[], COUNT),
     (&[(PASSES, PASSES_CERTIFICATE)], LOADED),
     (
@@ -205,23 +205,12 @@ fn answer_of_many(alloc: Global, count: usize) -> Result<Answer, AllocError> {
     answer_of_texts(alloc, texts.as_slice())
 }
 
+/// `tools/refuse-allocations.sh tests flt_tests memory` refuses each request for memory in turn.
 #[test]
-fn loads_what_is_accepted(rt: HostRuntime) -> Result<(), Fail> {
+fn loads_what_is_accepted_within_memory(rt: HostRuntime) -> Result<(), Fail> {
     assert!(rt; wrong_case(rt.alloc(), &CASES)?.is_none());
     assert!(rt; answer_of_many(rt.alloc(), 16)? == LOADED);
     assert!(rt; answer_of_many(rt.alloc(), 17)? == COUNT);
-    Ok(())
-}
-
-/// `tools/refuse-allocations.sh tests flt_tests memory` refuses each request for memory in turn.
-#[test]
-fn loads_within_memory(rt: HostRuntime) -> Result<(), Fail> {
-    assert!(rt;
-        answer(
-            rt.alloc(),
-            &[(PASSES, PASSES_CERTIFICATE), (HIGHER, PASSES_CERTIFICATE)]
-        )? == LOADED
-    );
     Ok(())
 }
 
@@ -246,15 +235,9 @@ fn wrong_order(alloc: Global, cases: &[(&[File], bool)]) -> Result<Option<usize>
     Ok(None)
 }
 
+/// The same.
 #[test]
-fn knows_whether_locks_are_in_order(rt: HostRuntime) -> Result<(), Fail> {
+fn knows_whether_locks_are_in_order_within_memory(rt: HostRuntime) -> Result<(), Fail> {
     assert!(rt; wrong_order(rt.alloc(), &ORDERS)?.is_none());
-    Ok(())
-}
-
-/// The least certificate is made too. `tools/refuse-allocations.sh tests flt_tests memory` refuses each request for memory in turn.
-#[test]
-fn knows_an_order_within_memory(rt: HostRuntime) -> Result<(), Fail> {
-    assert!(rt; is_ordered(rt.alloc(), &[(APART, APART_GREATER_CERTIFICATE)])? == Some(true));
     Ok(())
 }

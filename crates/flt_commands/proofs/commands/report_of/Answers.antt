@@ -1,8 +1,8 @@
 use Rattle.std.proofs.Common.{◌≡◌, ap, map, option_map, refl}
-use Rattle.flt_commands.proofs.Reported.{answers_asked, answers_of, cut_asked, held_asked, kept_shown, never_quiet}
-use Rattle.flt_commands.proofs.Reported.{quiet_asked, remarked_after, says_of_pages, those_after, those_of}
+use Rattle.flt_commands.proofs.Reported.{answers_asked, answers_of, before_shown, cut_asked, held_asked, kept_shown, never_quiet}
+use Rattle.flt_commands.proofs.Reported.{quiet_asked, quiet_shown, remarked_after, says_of_pages, those_after, those_of}
 use Rattle.flt_words.specs.Request.{Check, Analyse, Thin, Run, Replay, Show, Extract, Pages, Emit, EmitInto, Compare, Serve, choice_of}
-use Rattle.flt_commands.specs.Attempts.{Does}
+use Rattle.flt_files.specs.Attempts.{Does}
 use Rattle.flt_commands.proofs.commands.report_of.Goals as goal
 
 pub returns-in-Check-clause-answers : goal.returns-in-Check-clause-answers
@@ -13,7 +13,7 @@ returns-in-Check-clause-answers g c =
     (g.P.Pictures.tried c.args.pictures.now) in
     answers_of c.covered_texts_break_nothing.ensures c.driven_texts_break_nothing.ensures
     c.fails_exactly_where_nothing_is_spelled.ensures.nowhere _ _ _ does _ request _ _ _
-    (rw c.in-Check.is at c.in_ok-text.ensures) (rw c.last_of.ensures at c.check_files-said.ensures) refl
+    (rw c.in-Check.is at c.in_ok-text.ensures) (c.check_files-said.result, c.of_text.ensures, rw c.last_of.ensures at c.check_files-said.ensures) refl
     (those_of _ _ c.report_on.ensures.texts) c.report_on.ensures.codes
     c.report_on.ensures.reported (remarked_after request _ _ _ c.new.ensures.items c.report_on.ensures.remarked)
 
@@ -25,7 +25,8 @@ returns-in-Analyse-clause-answers g c =
     (g.P.Pictures.tried c.args.pictures.now) in
     answers_of c.covered_texts_break_nothing.ensures c.driven_texts_break_nothing.ensures
     c.fails_exactly_where_nothing_is_spelled.ensures.nowhere _ _ _ does _ request _ _ _
-    (rw c.in-Analyse.is at c.in_ok-text.ensures) c.analyse_file-said.ensures refl
+    (rw c.in-Analyse.is at c.in_ok-text.ensures)
+    (c.analyse_file-said.result, c.of_text-in-Analyse.ensures, c.analyse_file-said.ensures) refl
     (those_of _ _ c.report_on-in-Analyse.ensures.texts) c.report_on-in-Analyse.ensures.codes
     c.report_on-in-Analyse.ensures.reported
     (remarked_after request _ _ _ c.new-in-Analyse.ensures.items c.report_on-in-Analyse.ensures.remarked)
@@ -38,7 +39,8 @@ returns-in-Thin-clause-answers g c =
     (g.P.Pictures.tried c.args.pictures.now) in
     answers_of c.covered_texts_break_nothing.ensures c.driven_texts_break_nothing.ensures
     c.fails_exactly_where_nothing_is_spelled.ensures.nowhere _ _ _ does _ request _ _ _
-    (rw c.in-Thin.is at c.in_ok-text.ensures) (rw c.last_of-in-Thin.ensures at c.thin_files-said.ensures) refl
+    (rw c.in-Thin.is at c.in_ok-text.ensures)
+    (c.thin_files-said.result, c.of_text-in-Thin.ensures, rw c.last_of-in-Thin.ensures at c.thin_files-said.ensures) refl
     (those_of _ _ c.report_on-in-Thin.ensures.texts) c.report_on-in-Thin.ensures.codes
     c.report_on-in-Thin.ensures.reported (remarked_after request _ _ _ c.new-in-Thin.ensures.items c.report_on-in-Thin.ensures.remarked)
 
@@ -52,7 +54,7 @@ returns-in-Run-default-true-default-default-clause-answers g c =
     answers_of c.covered_texts_break_nothing.ensures c.driven_texts_break_nothing.ensures
     c.fails_exactly_where_nothing_is_spelled.ensures.nowhere _ _ _ does _ request _ _
     _ (rw c.in-Run-default-true-default-default.is at c.in_ok-text.ensures)
-    (rw c.as_slice-files.ensures.value at c.run_files-said.ensures) refl
+    (c.run_files-said.result, c.of_run.ensures, rw c.as_slice-files.ensures.value at c.run_files-said.ensures) refl
     (those_of _ _ c.report_on-in-Run-default-true-default-default.ensures.texts)
     c.report_on-in-Run-default-true-default-default.ensures.codes
     c.report_on-in-Run-default-true-default-default.ensures.reported (remarked_after request _ _ _
@@ -66,7 +68,8 @@ returns-in_ok-tell_deadlock-in-Run-clause-answers g c =
     (g.P.Pictures.tried c.args.pictures.now) in
     answers_of c.covered_texts_break_nothing.ensures c.driven_texts_break_nothing.ensures
     c.fails_exactly_where_nothing_is_spelled.ensures.nowhere _ _ _ does _ request _ _
-    _ (rw c.in-Run.is at c.in_ok-text.ensures) (rw c.as_slice.ensures.value at c.run_files-said-in-Run.ensures) refl
+    _ (rw c.in-Run.is at c.in_ok-text.ensures)
+    (c.run_files-said-in-Run.result, c.of_run-in-Run.ensures, rw c.as_slice.ensures.value at c.run_files-said-in-Run.ensures) refl
     (those_of _ _ c.report_on-in-Run.ensures.texts) c.report_on-in-Run.ensures.codes c.report_on-in-Run.ensures.reported
     (remarked_after request _ _ _ c.new-in-Run.ensures.items c.report_on-in-Run.ensures.remarked)
 
@@ -79,8 +82,9 @@ returns-in-Replay-clause-answers g c =
     (g.P.Pictures.tried c.args.pictures.now) in
     answers_of c.covered_texts_break_nothing.ensures c.driven_texts_break_nothing.ensures
     c.fails_exactly_where_nothing_is_spelled.ensures.nowhere _ _ _ does _ request _ _
-    _ (rw c.in-Replay.is at c.in_ok-text.ensures) said.1 refl
-    (those_after _ _ _ _ _ c.report_on-in-Replay.ensures.texts c.report_on-in-Replay.ensures.journal said.2)
+    _ (rw c.in-Replay.is at c.in_ok-text.ensures) (c.replay_files-said.result, c.of_run-in-Replay.ensures, said.1) refl
+    (those_after _ _ _ c.replay_files-said.result _ _ c.of_run-in-Replay.ensures c.report_on-in-Replay.ensures.texts
+    c.report_on-in-Replay.ensures.journal said.2)
     c.report_on-in-Replay.ensures.codes c.report_on-in-Replay.ensures.reported
     (remarked_after request _ _ _ c.new-in-Replay.ensures.items c.report_on-in-Replay.ensures.remarked)
 
@@ -94,13 +98,21 @@ returns-in_ok-before-in-Show-clause-answers g c =
     (g.P.Pictures.tried c.show_files-said.new.pictures) in
     answers_of c.covered_texts_break_nothing.ensures c.driven_texts_break_nothing.ensures
     c.fails_exactly_where_nothing_is_spelled.ensures.nowhere _ _ _ does _ request _ _
-    _ (rw c.in-Show.is at c.in_ok-text.ensures) said.1
+    _ (rw c.in-Show.is at c.in_ok-text.ensures) (c.show_files-said.result, c.of_run-in-Show.ensures, said.1)
     (kept_shown (g.P.Pictures.written c.show_files-said.new.pictures) does c.in-Show.timeline c.in-Show.picture c.in-Show.journal.now
-    (map (λ name. name.now) c.in-Show.files.items) _ _ c.show_files-said.result c.show_files-said.ensures.drawn
+    (map (λ name. name.now) c.in-Show.files.items) _ _ c.show_files-said.result _ c.of_run-in-Show.ensures c.show_files-said.ensures.drawn
     c.show_files-said.ensures.untouched)
-    (those_after _ _ _ _ _ c.report_on-in-Show.ensures.texts c.report_on-in-Show.ensures.journal said.2)
+    (those_after _ _ _ c.show_files-said.result _ _ c.of_run-in-Show.ensures c.report_on-in-Show.ensures.texts
+    c.report_on-in-Show.ensures.journal said.2)
     c.report_on-in-Show.ensures.codes c.report_on-in-Show.ensures.reported
-    (remarked_after request _ _ _ c.in_ok-before-in-Show.ensures c.report_on-in-Show.ensures.remarked)
+    (remarked_after request _ _ _
+    (before_shown _ c.show_files-said.result _ c.of_run-in-Show.ensures c.in_ok-before-in-Show.ensures)
+    c.report_on-in-Show.ensures.remarked)
+
+pub returns-in_ok-before-in-Show-clause-quiet : goal.returns-in_ok-before-in-Show-clause-quiet
+returns-in_ok-before-in-Show-clause-quiet g c =
+    quiet_shown _ _ _ _ (before_shown _ c.show_files-said.result _ c.of_run-in-Show.ensures c.in_ok-before-in-Show.ensures)
+    c.report_on-in-Show.ensures.reported c.report_on-in-Show.ensures.quiet
 
 pub returns-in-Extract-clause-answers : goal.returns-in-Extract-clause-answers
 returns-in-Extract-clause-answers g c =
@@ -110,7 +122,8 @@ returns-in-Extract-clause-answers g c =
     (g.P.Pictures.tried c.args.pictures.now) in
     answers_of c.covered_texts_break_nothing.ensures c.driven_texts_break_nothing.ensures
     c.fails_exactly_where_nothing_is_spelled.ensures.nowhere _ _ _ does _ request _ _ _
-    (rw c.in-Extract.is at c.in_ok-text.ensures) (rw c.as_slice-in-Extract.ensures.value at c.extract_files-said.ensures) refl
+    (rw c.in-Extract.is at c.in_ok-text.ensures)
+    (c.extract_files-said.result, c.of_text-in-Extract.ensures, rw c.as_slice-in-Extract.ensures.value at c.extract_files-said.ensures) refl
     (those_of _ _ c.report_on-in-Extract.ensures.texts) c.report_on-in-Extract.ensures.codes c.report_on-in-Extract.ensures.reported
     (remarked_after request _ _ _ c.new-in-Extract.ensures.items c.report_on-in-Extract.ensures.remarked)
 
@@ -122,9 +135,12 @@ returns-in-Pages-clause-answers g c =
     (g.P.Pictures.tried c.args.pictures.now) in
     answers_of c.covered_texts_break_nothing.ensures c.driven_texts_break_nothing.ensures
     c.fails_exactly_where_nothing_is_spelled.ensures.nowhere _ _ _ does _ request _ _ _
-    (rw c.in-Pages.is at c.in_ok-text.ensures)
-    (says_of_pages _ _ _ _ (ap (map (λ t. t.items)) c.new-contents.ensures.texts)
-    (rw c.as_slice-in-Pages.ensures.value at c.pages_of-said.ensures)) refl
+    (rw c.in-Pages.is at c.in_ok-text.ensures) (
+      c.pages_of-said.result,
+      c.of_explain.ensures,
+      says_of_pages _ _ _ _ (ap (map (λ t. t.items)) c.new-contents.ensures.texts)
+          (rw c.as_slice-in-Pages.ensures.value at c.pages_of-said.ensures),
+    ) refl
     (those_of _ _ c.report_on-in-Pages.ensures.texts) c.report_on-in-Pages.ensures.codes c.report_on-in-Pages.ensures.reported
     (remarked_after request _ _ _ c.new-in-Pages.ensures.items c.report_on-in-Pages.ensures.remarked)
 
@@ -136,7 +152,8 @@ returns-in-Emit-clause-answers g c =
     (g.P.Pictures.tried c.args.pictures.now) in
     answers_of c.covered_texts_break_nothing.ensures c.driven_texts_break_nothing.ensures
     c.fails_exactly_where_nothing_is_spelled.ensures.nowhere _ _ _ does _ request _ _ _
-    (rw c.in-Emit.is at c.in_ok-text.ensures) c.emit_files-said.ensures refl (those_of _ _ c.report_on-in-Emit.ensures.texts)
+    (rw c.in-Emit.is at c.in_ok-text.ensures)
+    (c.emit_files-said.result, c.of_text-in-Emit.ensures, c.emit_files-said.ensures) refl (those_of _ _ c.report_on-in-Emit.ensures.texts)
     c.report_on-in-Emit.ensures.codes
     c.report_on-in-Emit.ensures.reported (remarked_after request _ _ _ c.new-in-Emit.ensures.items c.report_on-in-Emit.ensures.remarked)
 
@@ -148,9 +165,13 @@ returns-in_ok-before-in-EmitInto-clause-answers g c =
     (g.P.Pictures.tried c.emit_files_into-said.new.pictures) in
     answers_of c.covered_texts_break_nothing.ensures c.driven_texts_break_nothing.ensures
     c.fails_exactly_where_nothing_is_spelled.ensures.nowhere _ _ _ does _ request _ _ _
-    (rw c.in-EmitInto.is at c.in_ok-text.ensures) c.emit_files_into-said.ensures.said c.emit_files_into-said.ensures.put
+    (rw c.in-EmitInto.is at c.in_ok-text.ensures)
+    (c.emit_files_into-said.result, c.of_text-in-EmitInto.ensures, c.emit_files_into-said.ensures.said)
+    (c.emit_files_into-said.result, c.of_text-in-EmitInto.ensures, c.emit_files_into-said.ensures.put)
     (those_of _ _ c.report_on-in-EmitInto.ensures.texts) c.report_on-in-EmitInto.ensures.codes c.report_on-in-EmitInto.ensures.reported
-    (remarked_after request _ _ _ c.in_ok-before-in-EmitInto.ensures c.report_on-in-EmitInto.ensures.remarked)
+    (remarked_after request _ _ _
+    (c.emit_files_into-said.result, c.of_text-in-EmitInto.ensures, c.in_ok-before-in-EmitInto.ensures)
+    c.report_on-in-EmitInto.ensures.remarked)
 
 pub returns-in_ok-before-in-EmitInto-clause-quiet : goal.returns-in_ok-before-in-EmitInto-clause-quiet
 returns-in_ok-before-in-EmitInto-clause-quiet g c =
@@ -202,6 +223,8 @@ returns-in-Compare-clause-answers g c =
     (g.P.Pictures.tried c.args.pictures.now) in
     answers_of c.covered_texts_break_nothing.ensures c.driven_texts_break_nothing.ensures
     c.fails_exactly_where_nothing_is_spelled.ensures.nowhere _ _ _ does _ request _ _ _
-    (rw c.in-Compare.is at c.in_ok-text.ensures) (rw c.as_slice-in-Compare.ensures.value at c.compare_files-said.ensures) refl
+    (rw c.in-Compare.is at c.in_ok-text.ensures)
+    (c.compare_files-said.result, c.of_text-in-Compare.ensures, rw c.as_slice-in-Compare.ensures.value at c.compare_files-said.ensures)
+    refl
     (those_of _ _ c.report_on-in-Compare.ensures.texts) c.report_on-in-Compare.ensures.codes c.report_on-in-Compare.ensures.reported
     (remarked_after request _ _ _ c.new-in-Compare.ensures.items c.report_on-in-Compare.ensures.remarked)

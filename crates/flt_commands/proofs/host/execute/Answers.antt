@@ -1,10 +1,10 @@
 use Rattle.std.proofs.Common.{Bool, List, ℕ, Option, None, Result, map, string_bytes}
 use Rattle.std.specs.Prelude.{IfOk}
-use Rattle.flt_commands.specs.Attempts.{Attempt, Does}
+use Rattle.flt_files.specs.Attempts.{Attempt, Does}
 use Rattle.flt_commands.specs.Commands.{Answers, AnswersSomehow}
-use Rattle.flt_commands.specs.Inputs.{Giving, Text}
-use Rattle.flt_commands.specs.System.{given_by_host, written_by_host}
-use Rattle.flt_commands.specs.declared.fault.CommandFault.{CommandFault}
+use Rattle.flt_files.specs.Inputs.{Giving, Text}
+use Rattle.flt_files.specs.System.{given_by_host, written_by_host}
+use Rattle.flt_commands_explain.specs.declared.fault.CommandFault.{CommandFault}
 use Rattle.flt_commands.specs.declared.report.Report.{Report}
 use Rattle.flt_commands.proofs.Reported.{answers_anyway}
 use Rattle.flt_commands.proofs.host.execute.Goals as goal

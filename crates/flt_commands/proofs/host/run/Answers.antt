@@ -1,5 +1,10 @@
-use Rattle.flt_commands.proofs.NewServers.{asked_for}
+use Rattle.std.proofs.Common.{◌↔◌, IfSome, IsTrue, None, Option, Some, refl, true}
 use Rattle.flt_commands.proofs.host.run.Goals as goal
+
+-- a server ends only where the words ask for one
+asked_for : {A : Type 0} (P : Type 0) (ended : Option A) → (IsTrue true ↔ P) → IfSome ended (λ _. P)
+asked_for P (Some status) asks = asks.0 refl
+asked_for P None asks = tt
 
 pub returns-in-Ok-true-clause-asked : goal.returns-in-Ok-true-clause-asked
 returns-in-Ok-true-clause-asked g c =

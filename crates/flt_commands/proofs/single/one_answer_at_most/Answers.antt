@@ -1,6 +1,6 @@
 use Rattle.std.proofs.Common.{◌≡◌}
 use Rattle.flt_commands.proofs.OneAnswer.{printed_once, said_once}
-use Rattle.flt_commands.specs.Attempts.{Does}
+use Rattle.flt_files.specs.Attempts.{Does}
 use Rattle.flt_words.specs.Words.{asked}
 use Rattle.flt_commands.proofs.single.one_answer_at_most.Goals as goal
 

@@ -1,6 +1,6 @@
 use Rattle.flt_commands.proofs.OneCheck.{checks_once}
 use Rattle.flt_commands.proofs.OneDecision.{bytes_decided_once}
-use Rattle.flt_commands.specs.Check.{Decides}
+use Rattle.flt_commands_texts.specs.Check.{Decides}
 use Rattle.flt_commands.proofs.single.one_check_at_most.Goals as goal
 
 pub returns : goal.returns

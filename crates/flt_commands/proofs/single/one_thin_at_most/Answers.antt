@@ -1,6 +1,6 @@
 use Rattle.flt_commands.proofs.OneThin.{thins_once}
 use Rattle.flt_commands.proofs.OneDecision.{bytes_decided_once}
-use Rattle.flt_commands.specs.Thin.{Decides}
+use Rattle.flt_commands_texts.specs.Thin.{Decides}
 use Rattle.flt_commands.proofs.single.one_thin_at_most.Goals as goal
 
 pub returns : goal.returns

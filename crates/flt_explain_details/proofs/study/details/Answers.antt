@@ -3,8 +3,8 @@ use Rattle.flt_explain_details.proofs.MoreDetails.{all_details, as_many, found_a
 use Rattle.flt_explain_details.proofs.MoreDetails.{one_detail_more, one_like_more, one_longer}
 use Rattle.flt_explain_details.proofs.study.details.Goals as goal
 
-pub at-shown-requires : goal.at-shown-requires
-at-shown-requires c =
+pub trace_at-shown-requires : goal.trace_at-shown-requires
+trace_at-shown-requires c =
     number_within c.args.found.now _ c.loop-finding.finding-index _ _ (as_many _ _ _ c.in_ok-traces.ensures) c.loop-finding-test.true
     c.len-number.ensures c.loop-finding.invariant.long
 
@@ -19,7 +19,7 @@ loop-finding-preserved c = record {
       c.in_ok-lines.ensures c.len-number.ensures
       (found_at c.args.found.now c.loop-finding.finding-index _ _ _ c.loop-finding-test.true (search rules) c.len-number.ensures
       c.loop-finding.invariant.long)
-      c.at-shown.ensures c.loop-finding.invariant.each c.in_ok-detail_by.ensures.detail c.in_ok-push.ensures.ok;
+      c.trace_at-shown.ensures c.loop-finding.invariant.each c.in_ok-detail_by.ensures.detail c.in_ok-push.ensures.ok;
   like =
       one_like_more c.args.found.now c.loop-finding.all _ _ c.len-number.result c.len-number.ensures c.in_ok-push.ensures.ok
       (rw c.in_ok-detail_by.ensures.like c.like-like.ensures) c.loop-finding.invariant.like;

@@ -1,5 +1,5 @@
 use Rattle.std.proofs.Common.{◌++◌, ap, ◌∙◌, refl, append_assoc}
-use Rattle.flt_explain_details.specs.Reports.{name_of}
+use Rattle.flt_explain_texts.specs.Reports.{name_of}
 use Rattle.flt_explain_forms.specs.Clean.{clean_lines}
 use Rattle.flt_explain_forms.specs.Lines.{IsPart, warning_lines}
 use Rattle.flt_explain_forms.specs.RunMember.{members_in}

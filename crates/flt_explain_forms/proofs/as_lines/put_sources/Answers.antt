@@ -1,5 +1,5 @@
 use Rattle.std.proofs.Common.{arith, subst}
-use Rattle.flt_explain_details.specs.declared.sources.Source.{Source}
+use Rattle.flt_explain_texts.specs.declared.sources.Source.{Source}
 use Rattle.flt_explain_forms.specs.Lines.{IsPart}
 use Rattle.flt_explain_forms.specs.RunMember.{members_in}
 use Rattle.flt_explain_forms.proofs.Sources.{one_more_told}

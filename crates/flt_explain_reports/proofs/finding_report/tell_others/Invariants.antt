@@ -1,5 +1,5 @@
 use Rattle.std.proofs.Common.{◌≡◌, ◌++◌, false, drop, map}
-use Rattle.flt_explain_ways.specs.declared.grouping.TracedFinding.{TracedFinding}
+use Rattle.flt_explain_origins.specs.declared.grouping.TracedFinding.{TracedFinding}
 use Rattle.flt_explain_reports.specs.Finding.{listed_from}
 use Rattle.flt_explain_reports.proofs.finding_report.tell_others.Given as goal
 

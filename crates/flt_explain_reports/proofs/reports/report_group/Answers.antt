@@ -1,5 +1,5 @@
 use Rattle.std.proofs.Common.{subst}
-use Rattle.flt_explain_details.specs.Words.{AreWords}
+use Rattle.flt_explain_advice.specs.Words.{AreWords}
 use Rattle.flt_explain_reports.proofs.reports.report_group.Goals as goal
 
 pub returns : goal.returns

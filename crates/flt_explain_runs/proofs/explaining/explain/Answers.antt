@@ -1,9 +1,9 @@
 use Rattle.std.proofs.Common.{◌≡◌, ap, subst}
-use Rattle.flt_explain_details.specs.Reports.{texts_of}
+use Rattle.flt_explain_texts.specs.Reports.{texts_of}
 use Rattle.flt_model.specs.Program.{filters_of}
-use Rattle.flt_explain_runs.specs.Parsed.{AreFilesOf}
-use Rattle.flt_explain_runs.specs.Readings.{files_read, known_in, texts_read}
-use Rattle.flt_explain_runs.proofs.Studied.{files_placed}
+use Rattle.flt_explain_outcomes.specs.Parsed.{AreFilesOf}
+use Rattle.flt_explain_outcomes.specs.Readings.{files_read, known_in, texts_read}
+use Rattle.flt_explain_outcomes.proofs.Studied.{files_placed}
 use Rattle.flt_explain_runs.proofs.explaining.explain.Goals as goal
 
 pub put_all-requires-clause-texts : goal.put_all-requires-clause-texts

@@ -1,5 +1,5 @@
 use Rattle.std.proofs.Common.{◌≡◌, ◌++◌, drop}
-use Rattle.flt_explain_runs.specs.Readings.{files_read}
+use Rattle.flt_explain_outcomes.specs.Readings.{files_read}
 use Rattle.flt_explain_runs.proofs.explaining.files_in.Given as goal
 
 abbrev pub invariant-loop-studied : goal.invariant-loop-studied

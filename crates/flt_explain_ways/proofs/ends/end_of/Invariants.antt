@@ -1,5 +1,5 @@
 use Rattle.std.proofs.Common.{◌≡◌, drop}
-use Rattle.flt_explain_ways.specs.Ways as spec
+use Rattle.flt_explain_origins.specs.Ways as spec
 use Rattle.flt_explain_ways.proofs.ends.end_of.Given as goal
 
 abbrev pub invariant-loop-step : goal.invariant-loop-step

@@ -1,6 +1,6 @@
 use Rattle.std.proofs.Common.{ap, ◌∙◌}
 use Rattle.flt_explain.specs.Faults.{faults_at}
-use Rattle.flt_explain_ways.specs.Ways.{is_among}
+use Rattle.flt_explain_origins.specs.Ways.{is_among}
 use Rattle.flt_explain_ways.proofs.faults.is_found_in.Goals as goal
 
 pub returns : goal.returns

@@ -1,7 +1,7 @@
 use Rattle.std.proofs.Common.{sym, subst, ◌∙◌}
 use Rattle.flt_abs.specs.Entry.{entry}
 use Rattle.flt_abs.specs.State.{Means}
-use Rattle.flt_explain_ways.specs.Ways.{end_of}
+use Rattle.flt_explain_origins.specs.Ways.{end_of}
 use Rattle.flt_explain_ways.proofs.to_finding.walked.Goals as goal
 
 pub returns : goal.returns

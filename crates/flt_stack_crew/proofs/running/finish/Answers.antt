@@ -1,6 +1,6 @@
 use Rattle.std.proofs.Common.{◌≡◌, ◌+◌, ◌<◌, ◌∙◌, sum_by, subst, sym}
 use Rattle.std.specs.Prelude.{IsPermutation}
-use Rattle.flt_stack_receipts.specs.Receipts.{receipts_in}
+use Rattle.flt_stack_core.specs.Receipts.{receipts_in}
 use Rattle.flt_stack_crew.proofs.Endings.{alone, ends_apart, ends_full, ends_refused, ends_whole, sum_of_one}
 use Rattle.flt_stack_crew.proofs.running.finish.Goals as goal
 

@@ -2,7 +2,7 @@ use Rattle.std.proofs.Common.{List, map, ap, ◌∙◌, subst}
 use Rattle.std.specs.Prelude.{◌↔◌, IsPermutation, IsTrue}
 use Rattle.flt_machine.specs.Situations.{Situation}
 use Rattle.flt_model.specs.declared.moves.JournalEntry.{JournalEntry}
-use Rattle.flt_stack_receipts.specs.Receipts.{receipts_in, together}
+use Rattle.flt_stack_core.specs.Receipts.{receipts_in, together}
 use Rattle.flt_stack_threads.proofs.ending.agrees.Goals as goal
 
 pub returns : goal.returns

@@ -1,7 +1,7 @@
 use Rattle.std.proofs.Common.{◌<◌, arith, length}
 use Rattle.flt_explain_runs.specs.Printing.{look_of}
 use Rattle.flt_explain_runs.specs.Whole.{no_block}
-use Rattle.flt_explain_runs.proofs.Notes.{setting_at}
+use Rattle.flt_explain_outcomes.proofs.Notes.{setting_at}
 use Rattle.flt_explain_runs.proofs.Reports.{all_blocks, next_block}
 use Rattle.flt_explain_runs.proofs.printing.Printer.blocks.Goals as goal
 

@@ -1,6 +1,6 @@
 use Rattle.std.proofs.Common.{refl}
 use Rattle.flt_explain_runs.specs.Printing.{look_of}
-use Rattle.flt_explain_runs.proofs.Notes.{no_notes, none_found}
+use Rattle.flt_explain_outcomes.proofs.Notes.{no_notes, none_found}
 use Rattle.flt_explain_runs.proofs.Reports.{body_none, body_some}
 use Rattle.flt_explain_runs.proofs.printing.Printer.body.Goals as goal
 

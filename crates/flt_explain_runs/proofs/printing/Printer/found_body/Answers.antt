@@ -1,8 +1,8 @@
 use Rattle.std.proofs.Common.{length}
 use Rattle.flt_explain_runs.specs.Printing.{look_of}
-use Rattle.flt_explain_runs.proofs.Notes.{all_notes}
+use Rattle.flt_explain_outcomes.proofs.Notes.{all_notes}
 use Rattle.flt_explain_runs.proofs.Reports.{as_many, found_is}
-use Rattle.flt_explain_runs.proofs.Runs.{within_all}
+use Rattle.flt_explain_outcomes.proofs.Runs.{within_all}
 use Rattle.flt_explain_runs.proofs.printing.Printer.found_body.Goals as goal
 
 pub text_notes-requires : goal.text_notes-requires

@@ -1,6 +1,6 @@
 use Rattle.std.proofs.Common.{rules}
 use Rattle.flt_explain_runs.specs.Parts.{notes_in}
-use Rattle.flt_explain_runs.proofs.Notes.{notes_are_of}
+use Rattle.flt_explain_outcomes.proofs.Notes.{notes_are_of}
 use Rattle.flt_explain_runs.proofs.printing.Printer.parsed_report.Goals as goal
 
 pub returns-clause-notes : goal.returns-clause-notes

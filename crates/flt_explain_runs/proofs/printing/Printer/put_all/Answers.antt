@@ -1,13 +1,13 @@
 use Rattle.std.proofs.Common.{Err, rules, ◌≡◌, ◌-◌, ◌∷◌, [], length, take, refl, sym, subst, ap, ◌∙◌}
 use Rattle.flt_explain_runs.specs.Printing.{ArePrinted, IsMore, look_of}
-use Rattle.flt_explain_runs.specs.Readings.{sources_read}
+use Rattle.flt_explain_outcomes.specs.Readings.{sources_read}
 use Rattle.flt_explain_runs.specs.Reported.{IsCut}
 use Rattle.flt_explain_runs.specs.Told.{nothing}
 use Rattle.flt_explain_runs.specs.Totals.{ending}
 use Rattle.flt_explain_runs.specs.declared.fault.ExplainFault.TheVariants.{OutOfMemory}
 use Rattle.flt_explain_runs.proofs.Several.{all_noted, all_print, all_reports, all_said, all_sent, appends_none, cut_here}
 use Rattle.flt_explain_runs.proofs.Several.{empty_notes, printed_more, printed_none, report_more, rest_out}
-use Rattle.flt_explain_runs.proofs.Studied.{last_studied, one_taken, placed_here, studied_here}
+use Rattle.flt_explain_outcomes.proofs.Studied.{last_studied, one_taken, placed_here, studied_here}
 use Rattle.flt_explain_runs.proofs.printing.Printer.put_all.Goals as goal
 
 pub loop-studied-init : goal.loop-studied-init

@@ -2,7 +2,7 @@ use Rattle.std.proofs.Common.{List, map, ap, sym, ◌∙◌, subst}
 use Rattle.std.specs.Prelude.{◌↔◌, IsPermutation, IsTrue}
 use Rattle.flt_stack_core.specs.Guarded.{Guarded}
 use Rattle.flt_model.specs.declared.moves.JournalEntry.{JournalEntry}
-use Rattle.flt_stack_receipts.specs.Receipts.{receipts_in, together}
+use Rattle.flt_stack_core.specs.Receipts.{receipts_in, together}
 use Rattle.flt_stack_threads.specs.declared.seats.CallerSeat.{CallerSeat}
 use Rattle.flt_stack_threads.proofs.stack.Stack.end.Goals as goal
 

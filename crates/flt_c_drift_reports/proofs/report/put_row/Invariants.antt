@@ -1,6 +1,0 @@
-use Rattle.std.proofs.Common.{◌≡◌, ◌++◌}
-use Rattle.flt_c_drift_reports.specs.Report.{row_of}
-use Rattle.flt_c_drift_reports.proofs.report.put_row.Given as goal
-
-abbrev pub invariant-loop-at : goal.invariant-loop-at
-invariant-loop-at l = l.out.items ≡ l.initial.out.items ++ row_of l.byte l._at

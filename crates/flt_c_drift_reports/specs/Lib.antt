@@ -1,3 +1,0 @@
-pub mod Line
-pub mod Report
-pub mod Words

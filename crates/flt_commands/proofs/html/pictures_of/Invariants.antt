@@ -1,6 +1,0 @@
-use Rattle.std.proofs.Common.{take}
-use Rattle.flt_commands.specs.Html.{AreDrawn}
-use Rattle.flt_commands.proofs.html.pictures_of.Given as goal
-
-abbrev pub invariant-loop-one : goal.invariant-loop-one
-invariant-loop-one l = AreDrawn l.parsed.trees (take l.one-index l.noted) l.pictures

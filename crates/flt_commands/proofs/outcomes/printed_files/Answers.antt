@@ -1,9 +1,0 @@
-use Rattle.std.proofs.Common.{arith, ◌∙◌}
-use Rattle.flt_commands.specs.Outcomes.{printed}
-use Rattle.flt_commands.proofs.SomeRead.{lines_more}
-use Rattle.flt_commands.proofs.outcomes.printed_files.Goals as goal
-
-pub loop-file-preserved : goal.loop-file-preserved
-loop-file-preserved c =
-    lines_more (printed c.args.mode) c.args.files.now c.loop-file.file-index c.file-item.result _ _ _ (omega (arith, c.loop-file-test.true))
-    c.file-item.is c.loop-file.invariant (c.as_slice.ensures.value ∙ c.in_ok-printed.ensures) c.in_ok-extend_from_slice.ensures.items

@@ -1,6 +1,0 @@
-use Rattle.std.proofs.Common.{◌≡◌, flat_map, take}
-use Rattle.flt_commands.specs.Outcomes.{remarked}
-use Rattle.flt_commands.proofs.outcomes.remarks.Given as goal
-
-abbrev pub invariant-loop-file : goal.invariant-loop-file
-invariant-loop-file l = l.lines.items ≡ flat_map (remarked l.mode) (take l.file-index l.files)

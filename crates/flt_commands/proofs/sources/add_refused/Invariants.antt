@@ -1,9 +1,0 @@
-use Rattle.std.proofs.Common.{◌≡◌, ◌++◌, drop}
-use Rattle.flt_commands.specs.Inputs.{unread_names}
-use Rattle.flt_commands.specs.Sources.{refused_names}
-use Rattle.flt_commands.proofs.sources.add_refused.Given as goal
-
-abbrev pub invariant-loop-flaw : goal.invariant-loop-flaw
-invariant-loop-flaw l =
-    unread_names l.unread.items ++ refused_names l.files (drop l.flaw-index l.refused)
-    ≡ unread_names l.fn.unread.items ++ refused_names l.files l.refused

@@ -1,0 +1,13 @@
+pub mod AfterDrifts
+pub mod Explaining
+pub mod Faults
+pub mod FindingRuns
+pub mod FoundFiles
+pub mod InTurn
+pub mod MadeSources
+pub mod MoreDrawn
+pub mod MoreParsed
+pub mod NewServers
+pub mod Paged
+pub mod Sent
+pub mod ServedFile

@@ -1,0 +1,35 @@
+-- What went out of what is said, and when.
+use Rattle.std.proofs.Common.{◌≡◌, ℕ, Bool, List, [], Option, take, inl, refl}
+use Rattle.std.proofs.KnownBytes.{Appends-nil}
+use Rattle.std.specs.Io.KnownBytes.{Appends}
+use Rattle.flt_commands_explain.proofs.InTurn.{no_lines}
+use Rattle.flt_commands_explain.specs.Explain.{IsCutIn, IsCutShort}
+use Rattle.flt_commands_explain.specs.Explain as explain
+use Rattle.flt_files.specs.Inputs.{Giving, Text}
+use Rattle.flt_explain_forms.specs.declared.as_lines.Style.TheVariants.{Object, Sentence}
+use Rattle.flt_explain_texts.specs.declared.sources.Source.{Source}
+use Rattle.flt_explain_warning_details.specs.declared.options.WarningOptions.{WarningOptions}
+use Rattle.flt_words.specs.Request.{Explain}
+use Rattle.flt_words.specs.declared.request.Form.{Form}
+use Rattle.flt_words.specs.declared.request.Form.TheVariants.{Html, Human, Lines, LinesWithRuns, Sarif, SarifWithRuns, Short}
+
+-- nothing goes out at once
+pub none_sent : (old : Option Text) (sent : ℕ) (bytes : Text) → sent ≡ 0 → Appends old old (take sent bytes)
+none_sent old sent bytes none = rw none (Appends-nil old)
+
+-- where nothing went out, no text is told of
+pub cut_nowhere : (form : Form) (options : WarningOptions) (states : ℕ) (sources : List Source) (old : Option Text) →
+    IsCutIn form options states sources old old
+cut_nowhere Human options states sources old = record { printed = []; added = Appends-nil old; are = inl refl }
+cut_nowhere Short options states sources old = no_lines Sentence options sources old
+cut_nowhere Lines options states sources old = no_lines Object options sources old
+cut_nowhere Sarif options states sources old = Appends-nil old
+cut_nowhere Html options states sources old = Appends-nil old
+cut_nowhere LinesWithRuns options states sources old = Appends-nil old
+cut_nowhere SarifWithRuns options states sources old = Appends-nil old
+
+-- where nothing went out, nothing is cut short
+pub cut_short : (gives : Giving) (is_c : Bool) (form : Form) (options : WarningOptions) (states : ℕ) (allowed files : List Text)
+    (old : Option Text) →
+    IsCutShort gives is_c form options states allowed files old old
+cut_short gives is_c form options states allowed files old = explain.none_read (Appends-nil old)

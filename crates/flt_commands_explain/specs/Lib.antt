@@ -1,0 +1,12 @@
+pub mod Allowed
+pub mod Annotated
+pub mod Answer
+pub mod Drifts
+pub mod Explain
+pub mod Fault
+pub mod FindingRuns
+pub mod Html
+pub mod InTurn
+pub mod Remarks
+pub mod Served
+pub mod Sources

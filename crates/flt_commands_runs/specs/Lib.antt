@@ -1,0 +1,4 @@
+pub mod Answer
+pub mod Drawn
+pub mod Replay
+pub mod Running

@@ -1,0 +1,85 @@
+-- The files of a driver: one after the other, what is done to them, and what is said of a text whose driver they are.
+use Rattle.std.proofs.Common.{◌≡◌, ◌∙◌, ap, List, [], ◌∷◌, ◌++◌, Option, Some, None, Ok}
+use Rattle.std.proofs.lemmas.List.{append_assoc}
+use Rattle.std.proofs.lemmas.List.Elements.{All-nil, All-push, All-weaker}
+use Rattle.flt_emit.specs.Files.{installation, user_header}
+use Rattle.flt_graph.specs.declared.graph.Graph.{Graph}
+use Rattle.flt_kinds.specs.declared.slot.Spot.{Spot}
+use Rattle.flt_tree.specs.declared.filter.Filter.{Filter}
+use Rattle.flt_words.specs.declared.request.Part.TheVariants.{Source}
+use Rattle.flt_files.specs.Attempts.{Attempt, Does, Failed, Grows, IsDone, Left, Wrote}
+use Rattle.flt_commands_texts.specs.Check.{HasPoints}
+use Rattle.flt_commands_texts.specs.Driver.{AreDone, AreNamed, attempts_of}
+use Rattle.flt_commands_texts.specs.Emit.{IsReadBack, part_text}
+use Rattle.flt_commands_texts.specs.EmitInto.{ArePut, IsPut, IsPutFor}
+use Rattle.flt_files.specs.Inputs.{Text}
+use Rattle.flt_commands_texts.specs.declared.answer.TextAnswer.{TextAnswer}
+use Rattle.flt_commands_texts.specs.declared.answer.TextAnswer.TheVariants.{EmittedInto}
+use Rattle.flt_commands_texts.specs.declared.driver.Driver.{Driver}
+use Rattle.flt_commands_texts.specs.declared.driver.DriverNames.{DriverNames}
+use Rattle.flt_commands_texts.specs.declared.driver.DriverOutcome.{DriverOutcome}
+use Rattle.flt_commands_texts.specs.declared.driver.DriverOutcome.TheVariants.{Whole, NoSource, NoHeader, NoInstallation}
+
+-- ---- one attempt more
+
+-- what grows twice grows by both
+grows_more : (a b c : Option (List Attempt)) (xs ys : List Attempt) → Grows a b xs → Grows b c ys → Grows a c (xs ++ ys)
+grows_more None b c xs ys first second = tt
+grows_more (Some a) None c xs ys first second = absurd first
+grows_more (Some a) (Some b) None xs ys first second = absurd second
+grows_more (Some a) (Some b) (Some c) xs ys first second = second ∙ ap (λ (l : List Attempt). l ++ ys) first ∙ append_assoc a xs ys
+
+-- a first attempt
+pub done_first : (written : Text → Text → Type 0) (before after : Option (List Attempt)) (x : Attempt) → IsDone written x →
+    Grows before after (x ∷ []) → AreDone written before after (x ∷ [])
+done_first written before after x one grown = record { done = All-push (IsDone written) [] x (All-nil (IsDone written)) one; only = grown }
+
+module _ (old new : Text → Text → Type 0) (kept : (other held : Text) → old other held → new other held) where
+  -- what was done stays done
+  still : (x : Attempt) → IsDone old x → IsDone new x
+  still (Wrote name bytes) is = kept name bytes is
+  still (Left name) is = tt
+  still (Failed name) is = tt
+
+  -- one more behind others
+  pub done_more : (before mid after : Option (List Attempt)) (xs : List Attempt) (x : Attempt) → AreDone old before mid xs → IsDone new x →
+      Grows mid after (x ∷ []) → AreDone new before after (xs ++ x ∷ [])
+  done_more before mid after xs x are one grown = record {
+    done = All-push (IsDone new) xs x (All-weaker (IsDone old) (IsDone new) still xs are.done) one;
+    only = grows_more before mid after xs (x ∷ []) are.only grown;
+  }
+
+-- ---- all of them
+
+-- there is an attempt, whatever became of a driver
+does_of : (same : Type 0) (old new : Option (List Attempt)) (names : DriverNames) (s h i : Text) (outcome : DriverOutcome) →
+    Grows old new (attempts_of names s h i outcome) → Does same old new (attempts_of names s h i outcome)
+does_of same old new names s h i (Whole is_new) is = is
+does_of same old new names s h i (NoSource why) is = is
+does_of same old new names s h i (NoHeader why) is = is
+does_of same old new names s h i (NoInstallation is_new why) is = is
+
+-- the driver of a filter is put where its parts are written
+pub put_known : (written : Text → Text → Type 0) (same : Type 0) (old new : Option (List Attempt)) (folder : Text) (f : Filter)
+    (listed : List Spot) (driver : Driver) (s h i : Text) → s ≡ part_text Source listed f → IsReadBack Source f s → h ≡ user_header f →
+    i ≡ installation f → AreNamed folder f.name driver.names → AreDone written old new (attempts_of driver.names s h i driver.outcome) →
+    IsPut written (Does same old new) folder f listed driver
+put_known written same old new folder f listed driver s h i source read header inf named are = record {
+  read = rw source at read;
+  named = named;
+  done = rw (source, header, inf) at are.done;
+  only = does_of same old new driver.names _ _ _ driver.outcome (rw (source, header, inf) at are.only);
+}
+
+-- what is put for a filter and its points is put for the text that spells it
+pub put_of : (written : Text → Text → Type 0) (does : List Attempt → Type 0) (folder text : Text) (texts : List Text) (graph : Graph)
+    (points : HasPoints text graph) (answer : TextAnswer) → IsPutFor written does folder points.filter graph answer →
+    ArePut written does folder (text ∷ texts) (Ok answer)
+put_of written does folder text texts graph points (EmittedInto driver) is = record {
+  graph = graph;
+  points = points;
+  listed = is.0;
+  kinds = is.1;
+  put = is.2;
+}
+put_of written does folder text texts graph points _ is = is

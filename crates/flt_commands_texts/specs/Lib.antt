@@ -1,0 +1,12 @@
+pub mod Analyse
+pub mod Answer
+pub mod Check
+pub mod Compare
+pub mod Driver
+pub mod Emit
+pub mod EmitInto
+pub mod Extract
+pub mod Format
+pub mod LayoutRemarks
+pub mod Outcomes
+pub mod Thin

@@ -1,0 +1,5 @@
+pub mod Advice
+pub mod Branches
+pub mod Case
+pub mod Subjects
+pub mod Words

@@ -1,3 +1,0 @@
-mod Ends
-mod Lines
-mod Marks

@@ -1,3 +1,0 @@
-pub mod Allowances
-pub mod Comment
-pub mod Marks

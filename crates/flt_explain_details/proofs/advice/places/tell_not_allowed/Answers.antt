@@ -1,6 +1,0 @@
-use Rattle.flt_explain_details.specs.Advice.Places.{not_allowed}
-use Rattle.flt_explain_details.proofs.advice.places.tell_not_allowed.Goals as goal
-
-pub returns : goal.returns
-unfolding not_allowed
-returns c = rw (← c.head.ensures) c.say.ensures

@@ -1,6 +1,0 @@
-use Rattle.flt_explain_details.specs.Advice.Statuses.{not_legal}
-use Rattle.flt_explain_details.proofs.advice.statuses.tell_not_legal.Goals as goal
-
-pub returns : goal.returns
-unfolding not_legal
-returns c = rw (← c.word.ensures, ← c.head.ensures) c.say.ensures

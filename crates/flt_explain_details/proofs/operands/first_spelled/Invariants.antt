@@ -1,7 +1,0 @@
-use Rattle.std.proofs.Common.{◌≡◌, drop}
-use Rattle.std.specs.List.{find}
-use Rattle.flt_explain_details.specs.Operands.{spells}
-use Rattle.flt_explain_details.proofs.operands.first_spelled.Given as goal
-
-abbrev pub invariant-loop-token : goal.invariant-loop-token
-invariant-loop-token l = find (spells l.statement l.word) (drop l.token-index l.tokens) ≡ find (spells l.statement l.word) l.tokens

@@ -1,5 +1,0 @@
-use Rattle.std.proofs.Common.{length}
-use Rattle.flt_explain_details.proofs.page.+begins.Given as goal
-
-abbrev pub decreases-begins : goal.decreases-begins
-decreases-begins l = length l.ranges.now

@@ -1,7 +1,0 @@
-use Rattle.std.proofs.Common.{arith}
-use Rattle.flt_explain_nearest.proofs.Letters.{all_lowered}
-use Rattle.flt_explain_nearest.proofs.nearest.lowered.Goals as goal
-
-pub returns : goal.returns
-returns c = all_lowered c.loop-byte.text c.args.word.now c.loop-byte.byte-index
-    (omega (arith, c.loop-byte-test.false)) c.loop-byte.invariant

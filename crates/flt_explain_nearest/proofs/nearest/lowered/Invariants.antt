@@ -1,7 +1,0 @@
-use Rattle.std.proofs.Common.{◌≡◌, ◌++◌, drop, encode_utf8_all, string_bytes}
-use Rattle.flt_explain_nearest.specs.Nearest.{lowered}
-use Rattle.flt_explain_nearest.proofs.nearest.lowered.Given as goal
-
-abbrev pub invariant-loop-byte : goal.invariant-loop-byte
-invariant-loop-byte l =
-    string_bytes l.text ++ encode_utf8_all (lowered (drop l.byte-index l.word)) ≡ encode_utf8_all (lowered l.word)

@@ -1,0 +1,14 @@
+pub mod FollowedBack
+pub mod Gathering
+pub mod HeldLocks
+pub mod Last
+pub mod Leading
+pub mod Nine
+pub mod OnWays
+pub mod Parts
+pub mod Searched
+pub mod Searching
+pub mod Singles
+pub mod Situations
+pub mod Steps
+pub mod Subjects

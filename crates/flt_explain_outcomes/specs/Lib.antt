@@ -1,0 +1,13 @@
+pub mod Again
+pub mod HandOver
+pub mod Meeting
+pub mod Noted
+pub mod Noting
+pub mod Parsed
+pub mod Possible
+pub mod Reach
+pub mod Readings
+pub mod Schedules
+pub mod Setters
+pub mod Unset
+pub mod Violations

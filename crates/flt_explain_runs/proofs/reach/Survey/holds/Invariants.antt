@@ -1,5 +1,0 @@
-use Rattle.flt_explain_runs.specs.Reach.{HoldsBefore}
-use Rattle.flt_explain_runs.proofs.reach.Survey.holds.Given as goal
-
-abbrev pub invariant-loop-callback : goal.invariant-loop-callback
-invariant-loop-callback l = HoldsBefore l.self.graph.now l.self.unset l.self.variable l.rows l.callback

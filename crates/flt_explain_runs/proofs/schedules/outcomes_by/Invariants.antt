@@ -1,7 +1,0 @@
-use Rattle.std.proofs.Common.{take}
-use Rattle.std.specs.List.{AllZip}
-use Rattle.flt_explain_runs.specs.Schedules.{IsOutcome}
-use Rattle.flt_explain_runs.proofs.schedules.outcomes_by.Given as goal
-
-abbrev pub invariant-loop-place : goal.invariant-loop-place
-invariant-loop-place l = AllZip (IsOutcome l.trees l.suspects.filter l.suspects.outlook.now) (take l.place l.suspects.found.now) l.all.items

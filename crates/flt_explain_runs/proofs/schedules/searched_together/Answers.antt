@@ -1,8 +1,0 @@
-use Rattle.std.proofs.Common.{rules}
-use Rattle.flt_explain_runs.proofs.Answers.{together_by}
-use Rattle.flt_explain_runs.proofs.schedules.searched_together.Goals as goal
-
-pub returns : goal.returns
-returns g c =
-    together_by (λ a. a.items) c.args.trees.now c.args.suspects.now.filter c.args.suspects.now.found.now c.searched.result
-    (search rules) c.searched.ensures

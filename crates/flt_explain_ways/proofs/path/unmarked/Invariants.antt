@@ -1,6 +1,0 @@
-use Rattle.std.proofs.Common.{◌≡◌, replicate}
-use Rattle.flt_explain_ways.specs.Search.{unmarked}
-use Rattle.flt_explain_ways.proofs.path.unmarked.Given as goal
-
-abbrev pub invariant-loop-point : goal.invariant-loop-point
-invariant-loop-point l = l.marks ≡ replicate l._point unmarked

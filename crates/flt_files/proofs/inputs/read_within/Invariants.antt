@@ -1,0 +1,11 @@
+use Rattle.std.proofs.Common.{◌≡◌, ◌≤◌, length}
+use Rattle.std.specs.Io.KnownBytes.{Consumes}
+use Rattle.flt_files.proofs.inputs.read_within.Given as goal
+
+abbrev pub invariant-loop : goal.invariant-loop
+invariant-loop g l = record {
+  so_far : Consumes (g.R.Reader.left l.fn.reader) (g.R.Reader.left l.reader) l.found.items;
+  few : length l.found.items ≤ 67108864;
+  fine : g.R.Reader.failures l.reader ≡ g.R.Reader.failures l.fn.reader;
+  some : l.counter ≤ length l.found.items;
+}

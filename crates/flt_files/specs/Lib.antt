@@ -1,0 +1,9 @@
+pub mod Attempts
+pub mod Failure
+pub mod Flaws
+pub mod Inputs
+pub mod Names
+pub mod Split
+pub mod System
+pub mod Unread
+pub mod Unwritten

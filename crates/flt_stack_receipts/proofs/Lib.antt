@@ -1,4 +1,0 @@
-pub mod Agreement
-pub mod Arriving
-pub mod Entries
-pub mod Holding

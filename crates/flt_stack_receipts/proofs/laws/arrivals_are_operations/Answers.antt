@@ -1,5 +1,0 @@
-use Rattle.flt_stack_receipts.proofs.Arriving.{run_arrives}
-use Rattle.flt_stack_receipts.proofs.laws.arrivals_are_operations.Goals as goal
-
-pub returns : goal.returns
-returns c = run_arrives
