@@ -7,11 +7,11 @@ ghost use Rattle.flt_files.specs.System.{given_by_host, written_by_host};
 ghost use Rattle.flt_words.specs.Words.{AskToServe};
 
 use crate::commands::command;
-use crate::folders::with_folders;
+use crate::folders::{CommandLine, with_folders};
 use crate::report::Report;
 use crate::search::WatchSearch;
 use flt_commands_explain::{CommandFault, serve_client};
-use flt_files::{CountedReader, HostSystem, Reader, SystemFiles};
+use flt_files::{BarredFile, CountedReader, HostSystem, Reader, SystemFiles};
 use flt_model::{ReadFault, Writing};
 use flt_server_frames::{Incoming, ServeFault};
 use flt_stack_crew::Watch;
@@ -113,7 +113,7 @@ impl<W: Write + Drop> Write for CheckedWriter<W> {
 
 /// The words of the command line, without the program's own name, with the texts of each folder that `explain` is given in its place; none
 /// if one of them isn't UTF-8.
-fn arguments(rt: &HostRuntime) -> Result<Option<Vec<String>>, AllocError> {
+fn arguments(rt: &HostRuntime) -> Result<Option<CommandLine>, AllocError> {
     let given = match env::args(rt) {
         Ok(given) => given,
         Err(fault) if fault.kind() == io::ErrorKind::InvalidData => return Ok(None),
@@ -140,9 +140,9 @@ fn say_unwritten(rt: &HostRuntime, out: &CheckedWriter<Stdout>) {
 }
 
 /// The words of the command line; none if one of them isn't UTF-8, or if memory ran out, which the standard error then says.
-fn words_of(rt: &HostRuntime) -> Option<Vec<String>> {
+fn words_of(rt: &HostRuntime) -> Option<CommandLine> {
     match arguments(rt) {
-        Ok(Some(words)) => Some(words),
+        Ok(Some(line)) => Some(line),
         Ok(None) => {
             let _ = eprintln!(rt; "a word is not UTF-8");
             None
@@ -206,16 +206,17 @@ fn shows_colours(rt: &HostRuntime) -> Result<bool, AllocError> {
     Ok(!is_dumb(rt)?)
 }
 
-/// Runs the command of some words on the system, and returns the report on it. The standard error says if memory ran out, or why the answer
-/// isn't written.
+/// Runs the command of some words on the system, of which some files aren't opened, and returns the report on it. The standard error says if
+/// memory ran out, or why the answer isn't written.
 fn execute<R: Threads + Wait + Sync>(
     rt: &HostRuntime,
     threads: &R,
     words: &[String],
+    barred: &[BarredFile],
 ) -> Option<Report>
     ensures { IfSome result (AnswersSomehow given_by_host written_by_host (map string_bytes words.now)) }
 {
-    let host = HostSystem::new(rt);
+    let host = HostSystem::new(rt, barred);
     let mut watch = Progress {
         rt,
         is_shown: rt.stderr().is_terminal(),
@@ -294,13 +295,14 @@ pub fn run<R: Threads + Wait + Sync>(rt: &HostRuntime, threads: &R) -> Execution
     ensures apart { IfSome result.report (λ _. ¬ (AskToServe (map string_bytes result.words.items))) }
     ensures asked { IfSome result.served (λ _. AskToServe (map string_bytes result.words.items)) }
 {
-    let Some(words) = words_of(rt) else {
+    let Some(line) = words_of(rt) else {
         return Execution {
             words: Vec::new(rt.alloc()),
             report: None,
             served: None,
         };
     };
+    let CommandLine { words, barred } = line;
     match ask_to_serve(rt.alloc(), words.as_slice()) {
         Ok(true) => Execution {
             report: None,
@@ -308,7 +310,7 @@ pub fn run<R: Threads + Wait + Sync>(rt: &HostRuntime, threads: &R) -> Execution
             words,
         },
         Ok(false) => Execution {
-            report: execute(rt, threads, words.as_slice()),
+            report: execute(rt, threads, words.as_slice(), barred.as_slice()),
             served: None,
             words,
         },

@@ -64,12 +64,23 @@ impl<R: Read + Drop> Reader for CountedReader<R> {
     }
 }
 
+/// A file that isn't opened: a folder was named for its texts, and this isn't one.
+#[derive(Drop)]
+pub struct BarredFile {
+    /// Its path, with U+FFFD for bytes that aren't UTF-8.
+    pub path: String,
+    /// Why it isn't opened.
+    pub why: InputFault,
+}
+
 /// The system that the program runs on: its files by their paths, and the standard input.
 #[derive(Drop)]
 pub struct HostSystem<'a> {
     rt: &'a HostRuntime,
+    /// The files that aren't opened, whatever there is under their paths.
+    barred: &'a [BarredFile],
     /// Why the last file couldn't be opened, if it couldn't.
-    fault: Cell<Option<io::Error>>,
+    fault: Cell<Option<InputFault>>,
 }
 
 impl System for HostSystem<'_> {
@@ -96,13 +107,17 @@ impl System for HostSystem<'_> {
     ghost puts = { λ _. Unseen };
 
     fn open(&self, name: &str) -> Option<CountedReader<File>> {
+        if let Some(why) = why_barred(self.barred, name) {
+            self.fault.set(Some(why));
+            return None;
+        }
         match fs::open(self.rt, name) {
             Ok(file) => {
                 self.fault.set(None);
                 Some(CountedReader::new(file))
             }
             Err(fault) => {
-                self.fault.set(Some(fault));
+                self.fault.set(Some(InputFault::of(&fault)));
                 None
             }
         }
@@ -154,17 +169,17 @@ impl System for HostSystem<'_> {
 
     fn why(&self, name: &str) -> InputFault {
         match self.fault.get() {
-            Some(fault) => InputFault::of(&fault),
+            Some(fault) => fault,
             None => self.why_long(name),
         }
     }
 }
 
 impl<'a> HostSystem<'a> {
-    /// The system of a runtime.
-    pub fn new(rt: &'a HostRuntime) -> HostSystem<'a> {
+    /// The system of a runtime, without these files.
+    pub fn new(rt: &'a HostRuntime, barred: &'a [BarredFile]) -> HostSystem<'a> {
         let fault = Cell::new(None);
-        HostSystem { rt, fault }
+        HostSystem { rt, barred, fault }
     }
 }
 
@@ -227,6 +242,16 @@ impl HostSystem<'_> {
         file.sync_all()?;
         fs::rename(self.rt, made, name)
     }
+}
+
+/// Why a file isn't opened, if it is one of those that aren't.
+fn why_barred(barred: &[BarredFile], path: &str) -> Option<InputFault> {
+    for file in barred {
+        if file.path.as_str() == path {
+            return Some(file.why);
+        }
+    }
+    None
 }
 
 /// The path of an input. The standard input is a file by this one.

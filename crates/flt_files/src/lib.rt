@@ -19,7 +19,7 @@ mod unwritten;
 pub use contents::Contents;
 pub use failure::Failure;
 pub use flaws::{FilePlace, flaw_line};
-pub use host_system::{CountedReader, HostSystem};
+pub use host_system::{BarredFile, CountedReader, HostSystem};
 pub use inputs::{
     Inputs, MAX_INPUT, Pictures, ReadFiles, is_standard, read_all, read_each, read_pieces_within,
     read_text_within, read_with_journal, read_within,

@@ -36,6 +36,10 @@ pub enum InputFault {
     Endless,
     /// It is the standard input, which another name before it is, too.
     Again,
+    /// A folder has it in which texts are looked for, and it is neither a regular file nor a link to one.
+    Irregular,
+    /// A folder has it in which texts are looked for, and its name isn't UTF-8.
+    NotUtf8,
     /// The annotations of a C file make no text.
     Flawed(Flaw),
     /// The system refuses it for another reason, and says why.
@@ -107,6 +111,8 @@ impl InputFault {
             InputFault::TooLong => "it has more than 67,108,864 bytes",
             InputFault::Endless => "it has no end within 67,108,864 bytes",
             InputFault::Again => "the standard input is read once, for the first `-`",
+            InputFault::Irregular => "it isn't a regular file",
+            InputFault::NotUtf8 => "its name isn't UTF-8",
             InputFault::Flawed(flaw) => return annotation_flaw_words(alloc, flaw),
             InputFault::Refused(fault) => return format!(in alloc; "reading it failed: {fault}"),
             InputFault::Failed => "reading it failed",
@@ -126,6 +132,8 @@ impl InputFault {
             InputFault::TooLong | InputFault::Endless =>
                 "a text has at most 65,536 bytes, a journal 1,000,000 entries",
             InputFault::Again => "name each input once",
+            InputFault::Irregular => "name it by itself, or take it out of the folder",
+            InputFault::NotUtf8 => "rename it",
             InputFault::Flawed(_) =>
                 "an annotation is what follows `//@flt` in its line, or `/*@flt` up to `*/`",
             InputFault::Refused(_) | InputFault::Failed => "copy it into a file first",
