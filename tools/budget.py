@@ -12,8 +12,8 @@ PAGE = f"{TOP}/docs/CONTRIBUTING.md"
 KINDS = ("proof", "tests", "edits")
 ABOUT = """\
 # What each crate took of the gate when that was read last, in table seconds: its proof, its tests, its edits of must-fail/. `tools/gate-times
-# --budget --write` writes this file and the table of docs/CONTRIBUTING.md. The seconds of a run are divided by its machine's factor: what the
-# first of the crates behind `factor` that it proves takes there, by its row here.
+# --budget --write` writes this file and the table of docs/CONTRIBUTING.md. The seconds of a run are divided by its machine's factor: what those of
+# the crates after `factor` that it proves take there together, by their rows here.
 """
 HEAD = "| Seconds | Crates |\n|---|---|\n"
 # From how many seconds on a group of the table is.
@@ -58,22 +58,22 @@ class Budget:
 
     def factor(self, table):
         """A machine's factor by what a run took there, or None, and what to say of it."""
-        took, ratios = {}, {}
+        took, has = {}, {}
         for name, row in self.rows.items():
             kinds = [kind for kind in KINDS if row[kind] and table.get(name, {}).get(kind)]
             if kinds:
-                took[name] = of_row(table[name], kinds), of_row(row, kinds)
-                ratios[name] = took[name][0] / took[name][1]
-        first, *others = [it for it in self.by if it in ratios] or [None]
-        if first:
-            beside = f" (by {', '.join(f'{it} {ratios[it]:.2f}' for it in others)})" if others else ""
-            lacks = "" if first == self.by[0] else f"{self.by[0]} wasn't proved in this run. "
-            seconds, has = took[first]
-            return ratios[first], f"{lacks}{first} took {seconds:.0f} seconds, and has {has}: the factor is {ratios[first]:.2f}{beside}."
-        if len(ratios) >= MANY:
-            found = statistics.median(ratios.values())
-            return found, f"{' '.join(self.by)} weren't proved in this run: the factor is {found:.2f}, the middle one of {len(ratios)} crates."
-        return None, f"This run has no factor: of the crates that tell it, {' '.join(self.by)}, none was proved."
+                took[name], has[name] = of_row(table[name], kinds), of_row(row, kinds)
+        told = [it for it in self.by if it in took]
+        if told:
+            seconds, rows = sum(took[it] for it in told), sum(has[it] for it in told)
+            each = f" ({', '.join(f'{it} {took[it] / has[it]:.2f}' for it in told)})" if len(told) > 1 else ""
+            others = [it for it in self.by if it not in told]
+            lacks = f"{', '.join(others)} {'was' if len(others) == 1 else 'were'} not proved in this run. " if others else ""
+            return seconds / rows, f"{lacks}{', '.join(told)} took {seconds:,.0f} seconds, and have {rows:,}: the factor is {seconds / rows:.2f}{each}."
+        if len(took) >= MANY:
+            found = statistics.median(took[it] / has[it] for it in took)
+            return found, f"{', '.join(self.by)} were not proved in this run: the factor is {found:.2f}, the middle one of {len(took)} crates."
+        return None, f"This run has no factor: of the crates that tell it, {', '.join(self.by)}, none was proved."
 
     def with_run(self, table, factor, below):
         """The budget as a run leaves it: rows that it took anew, in table seconds, and those that it kept, of the crates that there are."""
