@@ -1,23 +1,17 @@
 -- The reports of drifts. This project's own program.
 use Rattle.std.specs.List.{list_any}
-use Rattle.std.specs.Prelude.{ℕ, zero, suc, Bool, ◌-◌, ◌==◌, ◌||◌, List, [], ◌∷◌, ◌++◌, codes, decimal, drop}
-use Rattle.std.specs.Prelude.{flat_map, length, map, nat_lt, take, if◌then◌else◌, Option, Some, None}
+use Rattle.std.specs.Prelude.{ℕ, zero, suc, Bool, ◌-◌, List, [], ◌∷◌, ◌++◌, codes, decimal, drop}
+use Rattle.std.specs.Prelude.{flat_map, length, nat_lt, take, if◌then◌else◌, Option, Some, None}
 use Rattle.flt_c_drift.specs.declared.drift.Drift.{Drift}
 use Rattle.flt_c_drift.specs.declared.drift.DriftKind.{DriftKind}
 use Rattle.flt_c_drift.specs.declared.drift.Span.{Span}
 use Rattle.flt_places.specs.Places.{first_line, place_in}
+use Rattle.flt_shown.specs.Shown.{shown}
 use Rattle.flt_tree.specs.Names.{Text}
 use Rattle.flt_tree.specs.declared.filter.Position.{Position}
 use Rattle.flt_c_drift.specs.DriftWords.{code, heading, help, is_difference, joint, opening}
 
 -- ---- bytes
-
--- a byte as it is shown: a blank for one that a terminal would obey
-abbrev pub shown_byte : ℕ → ℕ
-shown_byte b = if nat_lt b 32 || b == 127 then 32 else b
-
-abbrev pub shown : Text → Text
-shown bytes = map shown_byte bytes
 
 -- so many times the same byte
 abbrev pub row_of : ℕ → ℕ → Text

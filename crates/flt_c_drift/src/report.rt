@@ -7,6 +7,7 @@ ghost use Rattle.flt_places.specs.Places.{first_line, place_in};
 use crate::drift::{Drift, DriftKind, Span};
 use crate::drift_words::{code, heading, help, is_difference, joint, opening};
 use flt_places::Lines;
+use flt_shown::put_shown;
 use flt_tree::Position;
 use std::alloc::{AllocError, Global};
 
@@ -58,13 +59,6 @@ fn first_line(bytes: &[u8]) -> &[u8]
     &bytes[..length]
 }
 
-/// A byte as it is shown: a blank for one that a terminal would obey.
-fn shown_byte(byte: u8) -> u8
-    ensures { result ≡ spec.shown_byte byte }
-{
-    if byte < 32 || byte == 127 { b' ' } else { byte }
-}
-
 // ---- pieces
 
 /// Adds bytes as they are.
@@ -72,16 +66,6 @@ pub(crate) fn put(out: &mut Vec<u8>, bytes: &[u8]) -> Result<(), AllocError>
     ensures { OnOk result (out.new.items ≡ out.old.items ++ bytes.now) }
 {
     out.extend_from_slice(bytes)
-}
-
-/// Adds bytes as they are shown.
-fn put_shown(out: &mut Vec<u8>, bytes: &[u8]) -> Result<(), AllocError>
-    ensures { OnOk result (out.new.items ≡ out.old.items ++ spec.shown bytes.now) }
-{
-    for byte in bytes {
-        out.push(shown_byte(*byte))?;
-    }
-    Ok(())
 }
 
 /// Adds a byte `count` times.

@@ -2,7 +2,7 @@
 
 ghost use Rattle.std.specs.Prelude.{◌≡◌, ◌++◌, ◌∷◌, [], IfOk, List, OnOk, map};
 ghost use Rattle.std.specs.Option.{option_copied};
-ghost use Rattle.flt_explain_texts.specs.Page.{shown as shown_as};
+ghost use Rattle.flt_shown.specs.Shown.{shown as shown_as};
 ghost use Rattle.flt_explain_texts.specs.Reports.{texts_of};
 ghost use Rattle.flt_model.specs.Program.{filters_of};
 ghost use Rattle.flt_model.specs.declared.verdict.Verdict.TheVariants as verdicts;

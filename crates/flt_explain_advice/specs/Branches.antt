@@ -10,7 +10,7 @@ use Rattle.flt_graph.specs.declared.instruction.Instruction.TheVariants as instr
 use Rattle.flt_graph.specs.declared.instruction.Invocation.{Invocation}
 use Rattle.flt_places.specs.Places.{bytes_of}
 use Rattle.flt_explain_origins.specs.declared.answer.Step.{Step}
-use Rattle.flt_explain_texts.specs.Page.{shown}
+use Rattle.flt_shown.specs.Shown.{shown}
 
 -- how a call comes out; nothing where it can't fail
 abbrev pub call_outcome : Invocation → Bool → Option Text

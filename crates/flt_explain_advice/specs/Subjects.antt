@@ -16,7 +16,8 @@ use Rattle.flt_explain_origins.specs.declared.facts.VariableStatus.TheVariants a
 use Rattle.flt_explain_origins.specs.Alone.{alone}
 use Rattle.flt_explain_origins.specs.declared.answer.Way.{Way}
 use Rattle.flt_explain_texts.specs.Operands.{word_of}
-use Rattle.flt_explain_texts.specs.Page.{quoted, shown}
+use Rattle.flt_explain_texts.specs.Page.{quoted}
+use Rattle.flt_shown.specs.Shown.{shown}
 
 -- ---- subjects
 

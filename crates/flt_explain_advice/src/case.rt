@@ -2,7 +2,8 @@
 
 ghost use Rattle.std.specs.Prelude.{◌≡◌, ◌++◌, option_copied};
 ghost use Rattle.flt_explain_advice.specs.Case as spec;
-ghost use Rattle.flt_explain_texts.specs.Page.{said, shown};
+ghost use Rattle.flt_explain_texts.specs.Page.{said};
+ghost use Rattle.flt_shown.specs.Shown.{shown};
 
 use crate::subjects::subject_words;
 use flt_abs::Abs;

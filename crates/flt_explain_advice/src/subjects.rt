@@ -1,7 +1,7 @@
 //! The subjects of findings, in words.
 
 ghost use Rattle.std.specs.Prelude.{◌≡◌, ◌++◌, option_copied};
-ghost use Rattle.flt_explain_texts.specs.Page.{shown};
+ghost use Rattle.flt_shown.specs.Shown.{shown};
 ghost use Rattle.flt_explain_advice.specs.Subjects as spec;
 
 use flt_abs::{Abs, Statuses};

@@ -13,7 +13,8 @@ use Rattle.flt_syntax.specs.declared.token.Token.{Token}
 use Rattle.flt_tree.specs.Names.{Text}
 use Rattle.flt_tree.specs.declared.filter.Position.{Position}
 use Rattle.flt_explain_texts.specs.Closing.{fault_name}
-use Rattle.flt_explain_texts.specs.Page.{line_told, shown}
+use Rattle.flt_explain_texts.specs.Page.{line_told}
+use Rattle.flt_shown.specs.Shown.{shown}
 use Rattle.flt_explain_reports.specs.Excerpts.{excerpt}
 use Rattle.flt_explain_reports.specs.Heading.{at_file_place, heading, name_at}
 use Rattle.flt_explain_reports.specs.Marks.{drawn, width}

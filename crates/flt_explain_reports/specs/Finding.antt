@@ -13,7 +13,8 @@ use Rattle.flt_tree.specs.Names.{Text}
 use Rattle.flt_tree.specs.declared.filter.Position.{Position}
 use Rattle.flt_explain_origins.specs.declared.answer.Answer.{Answer}
 use Rattle.flt_explain_origins.specs.declared.answer.Answer.TheVariants as answer
-use Rattle.flt_explain_texts.specs.Page.{line_told, shown}
+use Rattle.flt_explain_texts.specs.Page.{line_told}
+use Rattle.flt_shown.specs.Shown.{shown}
 use Rattle.flt_rules.specs.Rule.{rule_name}
 use Rattle.flt_explain_origins.specs.Trace.{other_way, way_of}
 use Rattle.flt_explain_advice.specs.declared.words.Words.{Words}

@@ -3,7 +3,7 @@ use Rattle.std.specs.Prelude.{ℕ, Bool, [], ◌∷◌, ◌++◌, Option, Some, 
 use Rattle.std.specs.Fmt.{decimal}
 use Rattle.flt_tree.specs.Names.{Text}
 use Rattle.flt_tree.specs.declared.filter.Position.{Position}
-use Rattle.flt_explain_texts.specs.Page.{shown}
+use Rattle.flt_shown.specs.Shown.{shown}
 use Rattle.flt_places.specs.Files.{file_at, file_name, file_place}
 use Rattle.flt_places.specs.declared.files.Files.{Files}
 use Rattle.flt_explain_reports.specs.Colours.{bold, plain, red, yellow}

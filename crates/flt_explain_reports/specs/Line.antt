@@ -2,7 +2,7 @@
 use Rattle.std.specs.Prelude.{◌==◌, Bool, if◌then◌else◌, [], ◌∷◌, ◌++◌, None, codes, length}
 use Rattle.flt_tree.specs.Names.{Text}
 use Rattle.flt_tree.specs.declared.filter.Position.{Position}
-use Rattle.flt_explain_texts.specs.Page.{shown}
+use Rattle.flt_shown.specs.Shown.{shown}
 use Rattle.flt_places.specs.declared.places.Site.{Site}
 use Rattle.flt_explain_reports.specs.Heading.{at_place, heading}
 use Rattle.flt_explain_reports.specs.Marks.{drawn_alone, width}

@@ -21,7 +21,7 @@ use Rattle.flt_explain_origins.specs.declared.answer.Answer.{Answer}
 use Rattle.flt_explain_origins.specs.declared.answer.Step.{Step}
 use Rattle.flt_explain_origins.specs.declared.answer.Way.{Way}
 use Rattle.flt_explain_advice.specs.Branches.{step_call_outcome}
-use Rattle.flt_explain_texts.specs.Page.{shown}
+use Rattle.flt_shown.specs.Shown.{shown}
 use Rattle.flt_explain_advice.specs.Subjects.{fact_word, state_at_end}
 use Rattle.flt_explain_origins.specs.Trace.{other_way, way_of}
 use Rattle.flt_explain_reports.specs.declared.mark_words.Sign.{Sign}

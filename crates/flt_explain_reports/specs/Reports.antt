@@ -6,7 +6,7 @@ use Rattle.flt_places.specs.declared.files.Files.{Files}
 use Rattle.flt_places.specs.declared.files.SourceFile.{SourceFile}
 use Rattle.flt_tree.specs.Names.{Text}
 use Rattle.flt_tree.specs.declared.filter.Filter.{Filter}
-use Rattle.flt_explain_texts.specs.Page.{shown}
+use Rattle.flt_shown.specs.Shown.{shown}
 use Rattle.flt_explain_advice.specs.Words.{AreWords}
 use Rattle.flt_explain_advice.specs.declared.words.Words.{Words}
 use Rattle.flt_explain_ways.specs.declared.tracing.Traces.{Traces}

@@ -1,6 +1,6 @@
 -- The report of a warning. This project's own program.
 use Rattle.std.specs.Prelude.{ℕ, ◌==◌, ◌+◌, ◌-◌, Bool, if◌then◌else◌, List, [], ◌∷◌, ◌++◌, Option, Some, None, codes, length, slice_get}
-use Rattle.flt_explain_texts.specs.Page.{shown}
+use Rattle.flt_shown.specs.Shown.{shown}
 use Rattle.flt_explain_texts.specs.declared.operands.Marks.{Marks}
 use Rattle.flt_places.specs.Files.{file_at, file_line}
 use Rattle.flt_places.specs.Places.{line_of}

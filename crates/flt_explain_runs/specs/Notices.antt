@@ -2,7 +2,7 @@
 use Rattle.std.specs.Prelude.{◌≡◌, ℕ, ◌==◌, Bool, true, false, ◌&&◌, ◌||◌, List, [], ◌∷◌, ◌++◌, codes, eqb, if◌then◌else◌, length}
 use Rattle.std.specs.Prelude.{string_bytes}
 use Rattle.std.specs.Fmt.{decimal}
-use Rattle.std.specs.List.{starts_with}
+use Rattle.std.specs.List.{concat, starts_with}
 use Rattle.flt_tree.specs.Names.{Text}
 use Rattle.flt_explain_reasons.specs.declared.notice.Kind.{Kind}
 use Rattle.flt_explain_reasons.specs.declared.notice.Kind.TheVariants.{Certificate, Journal, Script}
@@ -11,6 +11,7 @@ use Rattle.flt_explain_reasons.specs.declared.notice.Notice.TheVariants.{Whole, 
 use Rattle.flt_explain_reasons.specs.declared.notice.Reason.{Reason}
 use Rattle.flt_explain_reports.specs.Line.{line_report}
 use Rattle.flt_explain_reports.specs.declared.line_report.MarkedLine.{MarkedLine}
+use Rattle.flt_shown.specs.Shown.{shown}
 
 -- a line detaches a filter, read from the start of a line or from within one
 abbrev pub detaches_from : Bool → Text → Bool
@@ -26,34 +27,37 @@ detaches script = detaches_from true script
 abbrev pub things : ℕ → List ℕ → List ℕ → List ℕ
 things count one several = if count == 1 then one else several
 
--- words, one behind the other
-abbrev pub joined : List (List ℕ) → List ℕ
-joined [] = []
-joined (w ∷ ws) = w ++ joined ws
-
 -- that nothing is known of the filters of a script that is alone
 abbrev pub altitude_note : Bool → List ℕ
 altitude_note true = codes "   = note: no text that parses is named beside it, so any altitude may be detached" ++ 10 ∷ []
 altitude_note false = []
 
--- a certificate: that it is well-formed, how much it has, and what it is for
-abbrev pub certificate_lines : Text → ℕ → List ℕ
+-- that a file of a name is well-formed, and how many things it has
+unfoldable pub well_formed : Text → List ℕ → ℕ → List ℕ → List ℕ → List ℕ
+well_formed name kind count one several =
+    concat (shown name ∷ kind ∷ decimal count ∷ codes " " ∷ things count one several ∷ (10 ∷ []) ∷ [])
+
+-- how it is used: a call, by its words before the name and after it
+unfoldable pub use_of : List ℕ → Text → List ℕ → List ℕ
+use_of call name rest = concat (codes "   = help: `fltstack " ∷ call ∷ shown name ∷ rest ∷ (10 ∷ []) ∷ [])
+
+-- a certificate: that it is well-formed, how much it has, and its use
+unfoldable pub certificate_lines : Text → ℕ → List ℕ
 certificate_lines name count =
-    joined (name ∷ codes ": a well-formed certificate of " ∷ decimal count ∷ codes " " ∷ things count (codes "callback") (codes "callbacks")
-    ∷ (10 ∷ codes "   = help: `fltstack check FILE ") ∷ name ∷ codes "` says whether it covers a text" ∷ (10 ∷ []) ∷ [])
+    well_formed name (codes ": a well-formed certificate of ") count (codes "callback") (codes "callbacks")
+    ++ use_of (codes "check FILE ") name (codes "` says whether it covers a text")
 
 -- the same of a journal
-abbrev pub journal_lines : Text → ℕ → List ℕ
+unfoldable pub journal_lines : Text → ℕ → List ℕ
 journal_lines name count =
-    joined (name ∷ codes ": a well-formed journal of " ∷ decimal count ∷ codes " " ∷ things count (codes "entry") (codes "entries")
-    ∷ (10 ∷ codes "   = help: `fltstack replay ") ∷ name ∷ codes " FILE..` says what it breaks on filters" ∷ (10 ∷ []) ∷ [])
+    well_formed name (codes ": a well-formed journal of ") count (codes "entry") (codes "entries")
+    ++ use_of (codes "replay ") name (codes " FILE..` says what it breaks on filters")
 
 -- the same of a script
-abbrev pub script_lines : Bool → Text → ℕ → List ℕ
+unfoldable pub script_lines : Bool → Text → ℕ → List ℕ
 script_lines is_alone name count =
-    joined (name ∷ codes ": a well-formed script of " ∷ decimal count ∷ codes " " ∷ things count (codes "command") (codes "commands")
-    ∷ (10 ∷ []) ∷ altitude_note is_alone ∷ codes "   = help: `fltstack run " ∷ name ∷ codes " FILE..` drives filters by it"
-    ∷ (10 ∷ []) ∷ [])
+    well_formed name (codes ": a well-formed script of ") count (codes "command") (codes "commands")
+    ++ (altitude_note is_alone ++ use_of (codes "run ") name (codes " FILE..` drives filters by it"))
 
 -- one that is well-formed
 abbrev pub whole_lines : Bool → Text → Kind → ℕ → List ℕ

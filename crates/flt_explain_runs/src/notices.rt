@@ -1,15 +1,13 @@
 //! Reports on certificates, journals and scripts, for people.
 
-ghost use Rattle.std.specs.Prelude.{◌≡◌, IfOk, string_bytes};
+ghost use Rattle.std.specs.Prelude.{◌≡◌, IfOk};
 ghost use Rattle.flt_explain_runs.specs.Notices as spec;
+ghost use Rattle.flt_explain_texts.specs.Page.{Writes};
 
 use flt_explain_reasons::{Kind, Notice, Reason};
 use flt_explain_reports::{MarkedLine, report_line};
+use flt_explain_texts::Page;
 use std::alloc::{AllocError, Global};
-
-/// The note that nothing is known of the filters that a script detaches.
-const ANY_ALTITUDE: &str =
-    "   = note: no text that parses is named beside it, so any altitude may be detached\n";
 
 /// Whether a line of a script detaches a filter.
 pub(crate) fn detaches(script: &[u8]) -> bool
@@ -32,68 +30,130 @@ fn things(count: usize, one: &'static str, several: &'static str) -> &'static st
     if count == 1 { one } else { several }
 }
 
-/// The lines on a well-formed certificate.
-fn certificate_lines(alloc: Global, name: &str, count: usize) -> Result<String, AllocError>
-    ensures { IfOk result (λ lines. string_bytes lines ≡ spec.certificate_lines name.now count) }
+/// Writes that nothing is known of the filters of a script that is alone; nothing for another.
+fn tell_altitude(page: &mut Page, is_alone: bool) -> Result<(), AllocError>
+    ensures { Writes result page.old page.new (spec.altitude_note is_alone) }
 {
-    let callbacks = things(count, "callback", "callbacks");
-    let lines = format!(in alloc;
-        "{name}: a well-formed certificate of {count} {callbacks}\n   = help: `fltstack check FILE {name}` says whether it covers a text\n"
-    )?;
-    Ok(lines)
+    if is_alone {
+        page.texts(&[
+            "   = note: no text that parses is named beside it, so any altitude may be detached\n",
+        ])
+    } else {
+        Ok(())
+    }
 }
 
-/// The lines on a well-formed journal.
-fn journal_lines(alloc: Global, name: &str, count: usize) -> Result<String, AllocError>
-    ensures { IfOk result (λ lines. string_bytes lines ≡ spec.journal_lines name.now count) }
-{
-    let entries = things(count, "entry", "entries");
-    let lines = format!(in alloc;
-        "{name}: a well-formed journal of {count} {entries}\n   = help: `fltstack replay {name} FILE..` says what it breaks on filters\n"
-    )?;
-    Ok(lines)
-}
-
-/// The note that nothing is known of the filters of a script that is alone; empty for another.
-fn altitude_note(is_alone: bool) -> &'static str
-    ensures { result.now ≡ spec.altitude_note is_alone }
-{
-    if is_alone { ANY_ALTITUDE } else { "" }
-}
-
-/// The lines on a well-formed script; with `is_alone`, it detaches filters and those of its stack aren't known.
-fn script_lines(
-    alloc: Global,
-    is_alone: bool,
-    name: &str,
+/// Writes that a file of a name is well-formed, and how many things it has.
+#[tactic(auto, unfolding(crate::specs::Notices::well_formed))]
+fn tell_well_formed(
+    page: &mut Page,
+    name: &[u8],
+    kind: &str,
     count: usize,
-) -> Result<String, AllocError>
-    ensures { IfOk result (λ lines. string_bytes lines ≡ spec.script_lines is_alone name.now count) }
+    one: &'static str,
+    several: &'static str,
+) -> Result<(), AllocError>
+    ensures { Writes result page.old page.new (spec.well_formed name.now kind.now count one.entry.now several.entry.now) }
 {
-    let commands = things(count, "command", "commands");
-    let note = altitude_note(is_alone);
-    let lines = format!(in alloc;
-        "{name}: a well-formed script of {count} {commands}\n{note}   = help: `fltstack run {name} FILE..` drives filters by it\n"
+    page.words(&[name])?;
+    page.numbers(&[kind, " "], &[count])?;
+    page.texts(&[things(count, one, several), "\n"])
+}
+
+/// Writes how a file of a name is used: by a call, with its words before the name and after it.
+#[tactic(auto, unfolding(crate::specs::Notices::use_of))]
+fn tell_use(page: &mut Page, call: &str, name: &[u8], rest: &str) -> Result<(), AllocError>
+    ensures { Writes result page.old page.new (spec.use_of call.now name.now rest.now) }
+{
+    page.texts(&["   = help: `fltstack ", call])?;
+    page.words(&[name])?;
+    page.texts(&[rest, "\n"])
+}
+
+/// Writes the lines on a well-formed certificate.
+#[tactic(auto, unfolding(crate::specs::Notices::certificate_lines))]
+fn tell_certificate(page: &mut Page, name: &[u8], count: usize) -> Result<(), AllocError>
+    ensures { Writes result page.old page.new (spec.certificate_lines name.now count) }
+{
+    tell_well_formed(
+        page,
+        name,
+        ": a well-formed certificate of ",
+        count,
+        "callback",
+        "callbacks",
     )?;
-    Ok(lines)
+    tell_use(page, "check FILE ", name, "` says whether it covers a text")
+}
+
+/// Writes the lines on a well-formed journal.
+#[tactic(auto, unfolding(crate::specs::Notices::journal_lines))]
+fn tell_journal(page: &mut Page, name: &[u8], count: usize) -> Result<(), AllocError>
+    ensures { Writes result page.old page.new (spec.journal_lines name.now count) }
+{
+    tell_well_formed(
+        page,
+        name,
+        ": a well-formed journal of ",
+        count,
+        "entry",
+        "entries",
+    )?;
+    tell_use(
+        page,
+        "replay ",
+        name,
+        " FILE..` says what it breaks on filters",
+    )
+}
+
+/// Writes the lines on a well-formed script; with `is_alone`, it detaches filters and those of its stack aren't known.
+#[tactic(auto, unfolding(crate::specs::Notices::script_lines))]
+fn tell_script(page: &mut Page, is_alone: bool, name: &[u8], count: usize) -> Result<(), AllocError>
+    ensures { Writes result page.old page.new (spec.script_lines is_alone name.now count) }
+{
+    tell_well_formed(
+        page,
+        name,
+        ": a well-formed script of ",
+        count,
+        "command",
+        "commands",
+    )?;
+    tell_altitude(page, is_alone)?;
+    tell_use(page, "run ", name, " FILE..` drives filters by it")
+}
+
+/// Writes the lines on a well-formed certificate, journal or script.
+fn tell_whole(
+    page: &mut Page,
+    is_alone: bool,
+    name: &[u8],
+    kind: Kind,
+    count: usize,
+) -> Result<(), AllocError>
+    ensures { Writes result page.old page.new (spec.whole_lines is_alone name.now kind count) }
+{
+    match kind {
+        Kind::Certificate => tell_certificate(page, name, count),
+        Kind::Journal => tell_journal(page, name, count),
+        Kind::Script => tell_script(page, is_alone, name, count),
+    }
 }
 
 /// The lines on a well-formed certificate, journal or script.
 fn whole_lines(
     alloc: Global,
     is_alone: bool,
-    name: &str,
+    name: &[u8],
     kind: Kind,
     count: usize,
 ) -> Result<Vec<u8>, AllocError>
     ensures { IfOk result (λ lines. lines.items ≡ spec.whole_lines is_alone name.now kind count) }
 {
-    let lines = match kind {
-        Kind::Certificate => certificate_lines(alloc, name, count)?,
-        Kind::Journal => journal_lines(alloc, name, count)?,
-        Kind::Script => script_lines(alloc, is_alone, name, count)?,
-    };
-    Ok(lines.into_bytes())
+    let mut page = Page::new(alloc);
+    tell_whole(&mut page, is_alone, name, kind, count)?;
+    Ok(page.out)
 }
 
 /// The report of a malformed line.
@@ -131,7 +191,7 @@ pub(crate) fn notice_lines(
     ensures { IfOk result (λ lines. spec.AreNoticeLines coloured is_alone name.now notice.now lines.items) }
 {
     match notice {
-        Notice::Whole(kind, count) => whole_lines(alloc, is_alone, name, *kind, *count),
+        Notice::Whole(kind, count) => whole_lines(alloc, is_alone, name.as_bytes(), *kind, *count),
         Notice::Malformed(_, reason) => malformed_lines(alloc, coloured, name, reason),
     }
 }

@@ -1,5 +1,5 @@
 use Rattle.std.proofs.Common.{◌≡◌, ◌++◌, drop, map}
-use Rattle.flt_explain_texts.specs.Page.{shown}
+use Rattle.flt_shown.specs.Shown.{shown}
 use Rattle.flt_commands_explain.proofs.html.shown_lines.Given as goal
 
 abbrev pub invariant-loop-line : goal.invariant-loop-line

@@ -4,9 +4,8 @@ use Rattle.std.proofs.Common.{length, map, take, drop, get_or, arith, append_ass
 use Rattle.std.specs.Prelude.{◌&&◌, replicate}
 use Rattle.std.specs.Int.{is_in_range}
 use Rattle.std.proofs.lemmas.List.{take_more, length-take-le}
-use Rattle.flt_tree.specs.Names.{Text}
-use Rattle.flt_explain_texts.specs.Page.{ascii, begins, byte_shown, character, character_by, front_of}
-use Rattle.flt_explain_texts.specs.Page.{shown, shown_from, sign_by, sign_of, IsStretch}
+use Rattle.flt_shown.specs.Shown.{ascii, begins, byte_shown, character, character_by, front_of}
+use Rattle.flt_shown.specs.Shown.{shown, shown_from, sign_by, sign_of, IsStretch, Text}
 
 -- ---- characters
 

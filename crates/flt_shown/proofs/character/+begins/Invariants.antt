@@ -1,5 +1,5 @@
 use Rattle.std.proofs.Common.{length}
-use Rattle.flt_explain_texts.proofs.page.+begins.Given as goal
+use Rattle.flt_shown.proofs.character.+begins.Given as goal
 
 abbrev pub decreases-begins : goal.decreases-begins
 decreases-begins l = length l.ranges.now

@@ -1,6 +1,6 @@
 use Rattle.std.proofs.Common.{◌≡◌, true}
-use Rattle.flt_explain_texts.specs.Page.{IsStretch}
-use Rattle.flt_explain_texts.proofs.page.plain.Given as goal
+use Rattle.flt_shown.specs.Shown.{IsStretch}
+use Rattle.flt_shown.proofs.shown.plain.Given as goal
 
 abbrev pub invariant-loop-byte : goal.invariant-loop-byte
 invariant-loop-byte l = record {

@@ -1,6 +1,6 @@
 use Rattle.std.proofs.Common.{arith, rules}
-use Rattle.flt_explain_texts.proofs.Pages.{one_printed}
-use Rattle.flt_explain_texts.proofs.page.plain.Goals as goal
+use Rattle.flt_shown.proofs.Stretches.{one_printed}
+use Rattle.flt_shown.proofs.shown.plain.Goals as goal
 
 pub loop-byte-preserved : goal.loop-byte-preserved
 loop-byte-preserved c = record {
