@@ -92,9 +92,9 @@ _fltstack() {
         exclusive='--check --write'
         ;;
     emit)
-        options='--part --into --help'
+        options='--part --into --force --help'
         valued='--part --into'
-        exclusive='--part --into'
+        exclusive='--part --into --force'
         ;;
     compare)
         options='--help'

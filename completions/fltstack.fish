@@ -219,9 +219,10 @@ complete -c fltstack -n '__fltstack_after format --help' -s h -l help -d 'Print 
 complete -c fltstack -n '__fltstack_at format 0+' -a '(__fltstack_files .flt)'
 
 # emit
-complete -c fltstack -n '__fltstack_after emit --part --into' -l part -x -a 'source user inf' -d 'The part that is printed'
-complete -c fltstack -n '__fltstack_after emit --part --into' -l into -x -a '(__fltstack_files /)' \
+complete -c fltstack -n '__fltstack_after emit --part --into --force' -l part -x -a 'source user inf' -d 'The part that is printed'
+complete -c fltstack -n '__fltstack_after emit --part --into --force' -l into -x -a '(__fltstack_files /)' \
     -d 'Write all three parts into this folder'
+complete -c fltstack -n '__fltstack_after emit --part --into --force' -l force -d 'Replace a source that is there, whoever wrote it'
 complete -c fltstack -n '__fltstack_after emit --help' -s h -l help -d 'Print help'
 complete -c fltstack -n '__fltstack_at emit 0' -a '(__fltstack_files .flt)'
 complete -c fltstack -n '__fltstack_at emit 1' -a '(__fltstack_files .cert)'

@@ -251,9 +251,10 @@ try_all() {
     done
     "$0" program explain - <<<"$never_set" &
     started+=($!)
-    # The header is there from the start, so that each run says the same.
+    # The header and the INF file are there from the start, so that each run says the same.
     mkdir "$work/driver"
     : >"$work/driver/pending_reads_user.h"
+    : >"$work/driver/pending_reads.inf"
     (cd "$top/examples" && "$top/tools/refuse-allocations.sh" program emit --into "$work/driver" pending_reads.flt pending_reads.cert </dev/null) &
     started+=($!)
     "$top/tools/try-serve" --frames "$top/examples/serve/short.session" | "$0" program serve &

@@ -305,12 +305,15 @@ module _ (law : Law) (runs : LawOfRuns) (nowhere : SpelledFailsNowhere) where
   emitted (text ∷ certificate ∷ []) answer part file cert said good = covered (Emits part) _ _ text answer said good
   emitted (text ∷ certificate ∷ more ∷ texts) answer part file cert said good = said
 
-  emitted_into : (texts : List Text) (answer : TextAnswer) (folder file : Text) (cert : Option Text) → IsEmittedInto folder texts (Ok answer) →
-      text_status answer ≡ 0 → IsClean (EmitInto folder file cert) texts
-  emitted_into [] answer folder file cert said good = said
-  emitted_into (text ∷ []) answer folder file cert said good = covered (Writes folder) _ _ text answer said good
-  emitted_into (text ∷ certificate ∷ []) answer folder file cert said good = covered (Writes folder) _ _ text answer said good
-  emitted_into (text ∷ certificate ∷ more ∷ texts) answer folder file cert said good = said
+  emitted_into : (gives : Giving) (texts : List Text) (answer : TextAnswer) (folder : Text) (is_forced : Bool) (file : Text)
+      (cert : Option Text) → IsEmittedInto gives is_forced folder texts (Ok answer) → text_status answer ≡ 0 →
+      IsClean (EmitInto folder is_forced file cert) texts
+  emitted_into gives [] answer folder is_forced file cert said good = said
+  emitted_into gives (text ∷ []) answer folder is_forced file cert said good =
+      covered (Writes gives is_forced folder) _ _ text answer said good
+  emitted_into gives (text ∷ certificate ∷ []) answer folder is_forced file cert said good =
+      covered (Writes gives is_forced folder) _ _ text answer said good
+  emitted_into gives (text ∷ certificate ∷ more ∷ texts) answer folder is_forced file cert said good = said
 
   -- where this is said of what the names give, and reported with the status 0, that holds which it says of an answer with that status
   module _ {A : Type 0} (kind : A → Answer) where
@@ -375,7 +378,7 @@ module _ (law : Law) (runs : LawOfRuns) (nowhere : SpelledFailsNowhere) where
   clean_of shown gives (Emit part file cert) codes texts said bytes status is reported good =
       says_clean OfText gives _ texts (IsEmitted part) _ said bytes status
       (λ answer is well. emitted texts answer part file cert is well) is reported good
-  clean_of shown gives (EmitInto folder file cert) codes texts said bytes status is reported good =
-      says_clean OfText gives _ texts (IsEmittedInto folder) _ said bytes status
-      (λ answer is well. emitted_into texts answer folder file cert is well) is reported good
+  clean_of shown gives (EmitInto folder is_forced file cert) codes texts said bytes status is reported good =
+      says_clean OfText gives _ texts (IsEmittedInto gives is_forced folder) _ said bytes status
+      (λ answer is well. emitted_into gives texts answer folder is_forced file cert is well) is reported good
   clean_of shown gives Serve codes texts said bytes status is reported good = tt

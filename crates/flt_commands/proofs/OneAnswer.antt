@@ -94,7 +94,7 @@ module _ (gives : Giving) (one : GivesOne gives) where
   gives_one (Format mode files) = one
   gives_one (Pages names) = one
   gives_one (Emit part file cert) = but_once cert
-  gives_one (EmitInto folder file cert) = but_once cert
+  gives_one (EmitInto folder is_forced file cert) = one
   gives_one (Compare files) = one
   gives_one Serve = one
 
@@ -149,7 +149,7 @@ module _ (checked : SaysOne OfText IsChecked) (analysed : SaysOne OfText IsAnaly
   said_once gives shown showing (Format modes.Write files) codes others texts more a b has one x y = absurd has
   said_once gives shown showing (Pages names) codes others texts more a b has one x y = absurd has
   said_once gives shown showing (Emit part file cert) codes others texts more a b has one x y = absurd has
-  said_once gives shown showing (EmitInto folder file cert) codes others texts more a b has one x y = absurd has
+  said_once gives shown showing (EmitInto folder is_forced file cert) codes others texts more a b has one x y = absurd has
   said_once gives shown showing (Compare files) codes others texts more a b has one x y =
       says_of_one_kind OfText gives one (names_of (Compare files)) (IsCompared files) (compares_once files) texts more a b x y
   said_once gives shown showing Serve codes others texts more a b has one x y = unserved_once a b x y

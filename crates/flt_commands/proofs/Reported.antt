@@ -179,11 +179,11 @@ module _ (words : List (List ℕ)) (request : Asked) (asks : Some request ≡ as
   held_asked old new held = rw (← asks) held
 
 -- where a folder is named for a driver, nothing is said of lines beside the answer
-pub never_quiet : (words : List (List ℕ)) (folder file : Text) (cert : Option Text) → Some (EmitInto folder file cert) ≡ asked words →
-    (result : Result Report CommandFault) →
+pub never_quiet : (words : List (List ℕ)) (folder : Text) (is_forced : Bool) (file : Text) (cert : Option Text) →
+    Some (EmitInto folder is_forced file cert) ≡ asked words → (result : Result Report CommandFault) →
     IfOk result (λ report. report.status ≢ 2 → NamesNoJournal (asked words) → report.remark.items ≡ [])
-never_quiet words folder file cert asks (Ok report) = rw (← asks) (λ good none. absurd none)
-never_quiet words folder file cert asks (Err e) = tt
+never_quiet words folder is_forced file cert asks (Ok report) = rw (← asks) (λ good none. absurd none)
+never_quiet words folder is_forced file cert asks (Err e) = tt
 
 -- ---- where it isn't known what else was done to files
 
@@ -232,7 +232,8 @@ kept_anyway written does (Explain form colour states journal warnings is_c files
     (own, same, written_anyway written (does []) journal own is)
 kept_anyway written does (Show timeline (Some picture) journal files) texts said is = is
 kept_anyway written does (Format Write files) texts said (own, same, is) = (own, same, all_changed_anyway written (does []) own is)
-kept_anyway written does (EmitInto folder file cert) texts said (own, same, is) = (own, same, put_anyway written does folder texts own is)
+kept_anyway written does (EmitInto folder is_forced file cert) texts said (own, same, is) =
+    (own, same, put_anyway written does folder texts own is)
 kept_anyway written does _ texts said is = tt
 
 answered_anyway : (shown : Bool) (gives : Giving) (written : Text → Text → Type 0) (does : List Attempt → Type 0) (request : Option Asked)

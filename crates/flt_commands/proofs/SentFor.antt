@@ -32,6 +32,6 @@ cut_short_for gives (Some (Extract of_map files)) old = Appends-nil old
 cut_short_for gives (Some (Format mode files)) old = Appends-nil old
 cut_short_for gives (Some (Pages names)) old = Appends-nil old
 cut_short_for gives (Some (Emit part file cert)) old = Appends-nil old
-cut_short_for gives (Some (EmitInto folder file cert)) old = Appends-nil old
+cut_short_for gives (Some (EmitInto folder is_forced file cert)) old = Appends-nil old
 cut_short_for gives (Some (Compare files)) old = Appends-nil old
 cut_short_for gives (Some Serve) old = Appends-nil old

@@ -38,7 +38,7 @@ use Rattle.flt_commands.specs.declared.report.Report.{Report}
 -- ---- what is said
 
 -- what the names may give: all their bytes, and of a name that is a text alone what is kept of them. `explain` reads all, since a FILE may
--- be a journal or C; so does `check` of a text and its certificate in one input
+-- be a journal or C, and so does `emit --into`, since a source may be longer; so does `check` of a text and its certificate in one input
 abbrev pub giving_for : Asked → Giving → Giving
 giving_for (Check file cert) = gives_but (Some (unwrap_or cert file))
 giving_for (Analyse file) = gives_but None
@@ -47,7 +47,6 @@ giving_for (Run workers quiet script files) = gives_but (Some script)
 giving_for (Replay journal files) = gives_but (Some journal)
 giving_for (Show timeline picture journal files) = gives_but (Some journal)
 giving_for (Emit part file cert) = gives_but cert
-giving_for (EmitInto folder file cert) = gives_but cert
 giving_for request = λ gives. gives
 
 -- a server reads its input piece by piece, so no name gives it: that of the standard input can't be read
@@ -74,8 +73,8 @@ IsSaid shown gives (Extract of_map files) codes texts =
 IsSaid shown gives (Format mode files) codes texts = IsOf OfText (IsFormatSaid gives mode files texts)
 IsSaid shown gives (Pages names) codes texts = IsOf OfExplain (Says gives (names_of (Pages names)) (λ read. ArePaged names) texts)
 IsSaid shown gives (Emit part file cert) codes texts = IsOf OfText (Says gives (names_of (Emit part file cert)) (IsEmitted part) texts)
-IsSaid shown gives (EmitInto folder file cert) codes texts =
-    IsOf OfText (Says gives (names_of (EmitInto folder file cert)) (IsEmittedInto folder) texts)
+IsSaid shown gives (EmitInto folder is_forced file cert) codes texts =
+    IsOf OfText (Says gives (names_of (EmitInto folder is_forced file cert)) (IsEmittedInto gives is_forced folder) texts)
 IsSaid shown gives (Compare files) codes texts = IsOf OfText (Says gives (names_of (Compare files)) (IsCompared files) texts)
 IsSaid shown gives Serve codes texts = IsUnserved
 
@@ -102,7 +101,7 @@ abbrev pub IsBefore : Asked → Result Answer Failure → List ℕ → Type 0
 IsBefore (Explain form colour states journal warnings is_c files) said bytes = IsOf OfExplain (λ own. IsFound journal own bytes) said
 IsBefore (Show timeline picture journal files) said bytes = OnOk said (bytes ≡ [])
 IsBefore (Format mode files) said bytes = IsOf OfText (λ own. IfOk own (λ answer. bytes ≡ remarks_in answer)) said
-IsBefore (EmitInto folder file cert) said bytes = IsOf OfText (λ own. bytes ≡ remark_in own) said
+IsBefore (EmitInto folder is_forced file cert) said bytes = IsOf OfText (λ own. bytes ≡ remark_in own) said
 IsBefore request said bytes = bytes ≡ []
 
 -- all that stands on the standard error
@@ -126,7 +125,7 @@ IsCutShort gives request old new = Appends old new []
 -- no file is named for the journal of a finding, and no folder for a driver
 abbrev pub NamesNoJournal : Option Asked → Type 0
 NamesNoJournal (Some (Explain form colour states (Some journal) warnings is_c files)) = ⊥
-NamesNoJournal (Some (EmitInto folder file cert)) = ⊥
+NamesNoJournal (Some (EmitInto folder is_forced file cert)) = ⊥
 NamesNoJournal request = Unit {0}
 
 -- ---- all of it
@@ -161,7 +160,7 @@ IsKept written does (Explain form colour states journal warnings is_c files) tex
 IsKept written does (Show timeline (Some picture) journal files) texts said =
     IsOf OfRun (λ own. IfOk own (IsDrawn written picture (drop 1 texts))) said
 IsKept written does (Format Write files) texts said = IsOf OfText (λ own. IfOk own (AreChanged written (does []))) said
-IsKept written does (EmitInto folder file cert) texts said = IsOf OfText (ArePut written does folder texts) said
+IsKept written does (EmitInto folder is_forced file cert) texts said = IsOf OfText (ArePut written does folder texts) said
 IsKept written does request texts said = does []
 
 -- the report on what is asked for. All of it speaks of the same texts, which are the report's, and of its C files:

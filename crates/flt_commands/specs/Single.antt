@@ -39,7 +39,7 @@ HasOneAnswer (Explain form colour states journal warnings is_c files) = ⊥
 HasOneAnswer (Format Write files) = ⊥
 HasOneAnswer (Pages names) = ⊥
 HasOneAnswer (Emit part file cert) = ⊥
-HasOneAnswer (EmitInto folder file cert) = ⊥
+HasOneAnswer (EmitInto folder is_forced file cert) = ⊥
 HasOneAnswer _ = Unit {0}
 
 -- the same of words; those that ask for nothing print nothing

@@ -217,14 +217,17 @@ fn report_of<'a, R: Threads + Wait + Sync, I: Inputs, P: Pictures, O: Sink, W: W
             );
             report_on(alloc, Vec::new(alloc), of_text(said), contents)
         }
-        Request::EmitInto { folder, file, cert } => {
+        Request::EmitInto {
+            folder,
+            is_forced,
+            file,
+            cert,
+        } => {
             let said = emit_files_into(
                 alloc,
-                &Texts {
-                    inputs,
-                    whole: cert,
-                },
+                inputs,
                 folder,
+                is_forced,
                 file,
                 cert,
                 pictures,

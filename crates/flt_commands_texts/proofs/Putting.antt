@@ -1,24 +1,27 @@
 -- The files of a driver: one after the other, what is done to them, and what is said of a text whose driver they are.
-use Rattle.std.proofs.Common.{◌≡◌, ◌∙◌, ap, List, [], ◌∷◌, ◌++◌, Option, Some, None, Ok}
+use Rattle.std.proofs.Common.{◌≡◌, ◌∙◌, ap, Bool, List, [], ◌∷◌, ◌++◌, Option, Some, None, Ok}
 use Rattle.std.proofs.lemmas.List.{append_assoc}
-use Rattle.std.proofs.lemmas.List.Elements.{All-nil, All-push, All-weaker}
+use Rattle.std.proofs.lemmas.List.Elements.{All-cons, All-nil, All-push, All-weaker}
 use Rattle.flt_emit.specs.Files.{installation, user_header}
 use Rattle.flt_graph.specs.declared.graph.Graph.{Graph}
 use Rattle.flt_kinds.specs.declared.slot.Spot.{Spot}
 use Rattle.flt_tree.specs.declared.filter.Filter.{Filter}
 use Rattle.flt_words.specs.declared.request.Part.TheVariants.{Source}
-use Rattle.flt_files.specs.Attempts.{Attempt, Does, Failed, Grows, IsDone, Left, Wrote}
+use Rattle.flt_files.specs.Attempts.{Attempt, Does, Failed, Grows, IsDone, Left, Made, Wrote}
 use Rattle.flt_commands_texts.specs.Check.{HasPoints}
-use Rattle.flt_commands_texts.specs.Driver.{AreDone, AreNamed, attempts_of}
+use Rattle.flt_commands_texts.specs.Driver.{AreDone, AreNamed, HasPlace, IsAskedFor, IsPlace, attempts_of}
 use Rattle.flt_commands_texts.specs.Emit.{IsReadBack, part_text}
 use Rattle.flt_commands_texts.specs.EmitInto.{ArePut, IsPut, IsPutFor}
-use Rattle.flt_files.specs.Inputs.{Text}
+use Rattle.flt_files.specs.Inputs.{Giving, Text}
 use Rattle.flt_commands_texts.specs.declared.answer.TextAnswer.{TextAnswer}
 use Rattle.flt_commands_texts.specs.declared.answer.TextAnswer.TheVariants.{EmittedInto}
 use Rattle.flt_commands_texts.specs.declared.driver.Driver.{Driver}
 use Rattle.flt_commands_texts.specs.declared.driver.DriverNames.{DriverNames}
 use Rattle.flt_commands_texts.specs.declared.driver.DriverOutcome.{DriverOutcome}
-use Rattle.flt_commands_texts.specs.declared.driver.DriverOutcome.TheVariants.{Whole, NoSource, NoHeader, NoInstallation}
+use Rattle.flt_commands_texts.specs.declared.driver.DriverOutcome.TheVariants.{Kept, NoSource, Written}
+use Rattle.flt_commands_texts.specs.declared.driver.SourcePlace.{SourcePlace}
+use Rattle.flt_commands_texts.specs.declared.driver.SourcePlace.TheVariants.{Free, Own, Forced}
+use Rattle.flt_commands_texts.specs.Stamp.{stamped}
 
 -- ---- one attempt more
 
@@ -38,6 +41,7 @@ module _ (old new : Text → Text → Type 0) (kept : (other held : Text) → ol
   -- what was done stays done
   still : (x : Attempt) → IsDone old x → IsDone new x
   still (Wrote name bytes) is = kept name bytes is
+  still (Made name bytes) is = kept name bytes is
   still (Left name) is = tt
   still (Failed name) is = tt
 
@@ -49,23 +53,42 @@ module _ (old new : Text → Text → Type 0) (kept : (other held : Text) → ol
     only = grows_more before mid after xs (x ∷ []) are.only grown;
   }
 
+-- one before others
+pub done_before : (written : Text → Text → Type 0) (before mid after : Option (List Attempt)) (x : Attempt) (xs : List Attempt) →
+    IsDone written x → Grows before mid (x ∷ []) → AreDone written mid after xs → AreDone written before after (x ∷ xs)
+done_before written before mid after x xs one grown are = record {
+  done = All-cons (IsDone written) x xs one are.done;
+  only = grows_more before mid after (x ∷ []) xs grown are.only;
+}
+
+-- what is known of the name of a driver's source
+pub asked_for : (gives : Giving) (is_forced : Bool) (name : Text) (place : SourcePlace) (outcome : DriverOutcome) →
+    IsPlace gives is_forced name place → HasPlace place outcome → IsAskedFor gives is_forced name outcome
+asked_for gives is_forced name place (Kept why) known has = absurd has
+asked_for gives is_forced name place (NoSource other why) known has = rw has known
+asked_for gives is_forced name place (Written other rest) known has = rw has known
+
 -- ---- all of them
 
 -- there is an attempt, whatever became of a driver
 does_of : (same : Type 0) (old new : Option (List Attempt)) (names : DriverNames) (s h i : Text) (outcome : DriverOutcome) →
     Grows old new (attempts_of names s h i outcome) → Does same old new (attempts_of names s h i outcome)
-does_of same old new names s h i (Whole is_new) is = is
-does_of same old new names s h i (NoSource why) is = is
-does_of same old new names s h i (NoHeader why) is = is
-does_of same old new names s h i (NoInstallation is_new why) is = is
+does_of same old new names s h i (Kept why) is = is
+does_of same old new names s h i (NoSource Free why) is = is
+does_of same old new names s h i (NoSource Own why) is = is
+does_of same old new names s h i (NoSource Forced why) is = is
+does_of same old new names s h i (Written Free rest) is = is
+does_of same old new names s h i (Written Own rest) is = is
+does_of same old new names s h i (Written Forced rest) is = is
 
 -- the driver of a filter is put where its parts are written
 pub put_known : (written : Text → Text → Type 0) (same : Type 0) (old new : Option (List Attempt)) (folder : Text) (f : Filter)
-    (listed : List Spot) (driver : Driver) (s h i : Text) → s ≡ part_text Source listed f → IsReadBack Source f s → h ≡ user_header f →
+    (listed : List Spot) (driver : Driver) (s h i : Text) → s ≡ stamped (part_text Source listed f) →
+    IsReadBack Source f (part_text Source listed f) → h ≡ user_header f →
     i ≡ installation f → AreNamed folder f.name driver.names → AreDone written old new (attempts_of driver.names s h i driver.outcome) →
     IsPut written (Does same old new) folder f listed driver
 put_known written same old new folder f listed driver s h i source read header inf named are = record {
-  read = rw source at read;
+  read = read;
   named = named;
   done = rw (source, header, inf) at are.done;
   only = does_of same old new driver.names _ _ _ driver.outcome (rw (source, header, inf) at are.only);

@@ -9,4 +9,5 @@ pub mod Extract
 pub mod Format
 pub mod LayoutRemarks
 pub mod Outcomes
+pub mod Stamp
 pub mod Thin

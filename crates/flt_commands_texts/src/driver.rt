@@ -1,11 +1,14 @@
 //! The files of a driver in a folder: their names, how they are written, and the lines about them.
 
-ghost use Rattle.flt_files.specs.Attempts.{Attempt, Failed, Grows, IsDone, Wrote, made};
+ghost use Rattle.flt_files.specs.Attempts.{Attempt, Failed, Grows, IsDone, Left, Wrote, made};
 ghost use Rattle.flt_commands_texts.specs.Driver as spec;
+ghost use Rattle.flt_commands_texts.specs.Stamp.{IsOther, IsOwnSource};
 ghost use Rattle.flt_files.specs.Unwritten.{unwritten_line as line_of_unwritten};
-ghost use Rattle.std.specs.Prelude.{◌≡◌, ◌<◌, ◌++◌, [], ◌∷◌, ℕ, List, Option, IfOk, OnErr, OnOk, map, string_bytes};
+ghost use Rattle.std.specs.Prelude.{◌≡◌, ◌<◌, ◌++◌, [], ◌∷◌, ℕ, List, Option, IfNone, IfOk, IfSome};
+ghost use Rattle.std.specs.Prelude.{OnErr, OnOk, false, map, string_bytes};
 
-use flt_files::{Pictures, unwritten_line, unwritten_lines};
+use crate::stamp::is_stamped;
+use flt_files::{Inputs, OutputFault, Pictures, unwritten_line, unwritten_lines};
 use flt_words::visible;
 use std::alloc::{AllocError, Global};
 
@@ -25,17 +28,50 @@ pub(crate) struct DriverParts {
     pub(crate) installation: Vec<u8>,
 }
 
-/// How far a driver is written: first its source, then its user's header, then its INF file. Whole lines say why a file isn't.
+/// The file under the name of a source, before it is written.
+#[derive(Clone, Copy, Debug)]
+pub enum SourcePlace {
+    /// Nothing.
+    Free,
+    /// A source as `emit --into` wrote it.
+    Own,
+    /// Nobody asked: any file is replaced.
+    Forced,
+}
+
+/// How far a driver is written after its source: first its user's header, then its INF file. Each is made unless something of its name is
+/// there. Whole lines say why one isn't.
+#[derive(Drop)]
+pub enum RestOutcome {
+    /// Both are there, and are new or as they were.
+    Whole {
+        has_new_header: bool,
+        has_new_installation: bool,
+    },
+    /// There is no header.
+    NoHeader(Vec<u8>),
+    /// The header is there, and no INF file.
+    NoInstallation {
+        has_new_header: bool,
+        why: Vec<u8>,
+    },
+}
+
+/// How far a driver is written, its source first. Whole lines say why a file isn't.
 #[derive(Drop)]
 pub enum DriverOutcome {
-    /// All files are there; the header is new, or was there and is as it was.
-    Whole { is_new: bool },
+    /// Something is there under the source's name that `emit --into` didn't write, or that was changed since; it is as it was.
+    Kept(Vec<u8>),
     /// The source isn't written.
-    NoSource(Vec<u8>),
-    /// The source is written, and no header made.
-    NoHeader(Vec<u8>),
-    /// The source and the header are there, and the INF file isn't written.
-    NoInstallation { is_new: bool, why: Vec<u8> },
+    NoSource {
+        place: SourcePlace,
+        why: Vec<u8>,
+    },
+    /// The source is written.
+    Written {
+        place: SourcePlace,
+        rest: RestOutcome,
+    },
 }
 
 /// A driver that was written into a folder, as far as that could be done.
@@ -112,6 +148,30 @@ fn put<P: Pictures>(
     }
 }
 
+/// Writes these bytes as the file of a name, if it still has the bytes that were read. Returns whole lines that say why that failed, if it
+/// did.
+fn put_again<P: Pictures>(
+    alloc: Global,
+    name: &str,
+    read: &[u8],
+    bytes: &[u8],
+    pictures: &mut P,
+) -> Result<Result<(), Vec<u8>>, AllocError>
+    ensures done { IfOk result (λ done. OnOk done (P.written pictures.new name.now bytes.now)) }
+    ensures wrote { IfOk result (λ done. OnOk done (Grows (P.tried pictures.old) (P.tried pictures.new)
+        (Wrote name.now bytes.now ∷ []))) }
+    ensures failed { IfOk result (λ done. OnErr done (Grows (P.tried pictures.old) (P.tried pictures.new) (Failed name.now ∷ []))) }
+    ensures kept { (other held : List ℕ) → P.written pictures.old other held → P.written pictures.new other held }
+{
+    match pictures.rewrite(alloc, name, read, bytes)? {
+        Ok(()) => Ok(Ok(())),
+        Err(why) => {
+            let lines = unwritten_lines(alloc, name, why)?;
+            Ok(Err(lines))
+        }
+    }
+}
+
 /// Writes these bytes as a new file of a name. Returns false if something of this name is there, which stays as it is; or whole lines that
 /// say why that failed.
 fn put_new<P: Pictures>(
@@ -135,78 +195,182 @@ fn put_new<P: Pictures>(
     }
 }
 
-/// Writes the INF file of a driver, after its source and its header, which is new or was there.
+/// Makes the INF file of a driver unless it is there, after its source and its header, which is new or was there.
 fn put_installation<P: Pictures>(
     alloc: Global,
-    inputs: &[&str],
     names: &DriverNames,
     parts: &DriverParts,
-    is_new: bool,
+    has_new_header: bool,
     pictures: &mut P,
-) -> Result<DriverOutcome, AllocError>
-    ensures { (before : Option (List Attempt)) → spec.AreDone (P.written pictures.old) before (P.tried pictures.old)
-        (Wrote (string_bytes names.now.source) parts.now.source.items
-        ∷ made is_new (string_bytes names.now.header) parts.now.header.items ∷ []) →
-        IfOk result (λ outcome. spec.AreDone (P.written pictures.new) before (P.tried pictures.new)
-        (spec.attempts_of names.now parts.now.source.items parts.now.header.items parts.now.installation.items outcome)) }
+) -> Result<RestOutcome, AllocError>
+    ensures { (before : Option (List Attempt)) (source : Attempt) → spec.AreDone (P.written pictures.old) before (P.tried pictures.old)
+        (source ∷ made has_new_header (string_bytes names.now.header) parts.now.header.items ∷ []) →
+        IfOk result (λ rest. spec.AreDone (P.written pictures.new) before (P.tried pictures.new)
+        (source ∷ spec.rest_of names.now parts.now.header.items parts.now.installation.items rest)) }
 {
     let bytes = parts.installation.as_slice();
-    match put(alloc, inputs, names.installation.as_str(), bytes, pictures)? {
-        Ok(()) => Ok(DriverOutcome::Whole { is_new }),
-        Err(why) => Ok(DriverOutcome::NoInstallation { is_new, why }),
+    match put_new(alloc, names.installation.as_str(), bytes, pictures)? {
+        Ok(has_new_installation) => Ok(RestOutcome::Whole {
+            has_new_header,
+            has_new_installation,
+        }),
+        Err(why) => Ok(RestOutcome::NoInstallation {
+            has_new_header,
+            why,
+        }),
     }
 }
 
-/// Makes the user's header of a driver unless it is there, after its source, and then writes the INF file.
-fn put_header<P: Pictures>(
+/// Makes the user's header of a driver unless it is there, after its source, and then its INF file.
+fn put_rest<P: Pictures>(
     alloc: Global,
-    inputs: &[&str],
     names: &DriverNames,
     parts: &DriverParts,
     pictures: &mut P,
-) -> Result<DriverOutcome, AllocError>
-    ensures { (before : Option (List Attempt)) → spec.AreDone (P.written pictures.old) before (P.tried pictures.old)
-        (Wrote (string_bytes names.now.source) parts.now.source.items ∷ []) →
-        IfOk result (λ outcome. spec.AreDone (P.written pictures.new) before (P.tried pictures.new)
-        (spec.attempts_of names.now parts.now.source.items parts.now.header.items parts.now.installation.items outcome)) }
+) -> Result<RestOutcome, AllocError>
+    ensures { (before : Option (List Attempt)) (source : Attempt) → spec.AreDone (P.written pictures.old) before (P.tried pictures.old)
+        (source ∷ []) → IfOk result (λ rest. spec.AreDone (P.written pictures.new) before (P.tried pictures.new)
+        (source ∷ spec.rest_of names.now parts.now.header.items parts.now.installation.items rest)) }
 {
     let bytes = parts.header.as_slice();
     match put_new(alloc, names.header.as_str(), bytes, pictures)? {
-        Ok(is_new) => put_installation(alloc, inputs, names, parts, is_new, pictures),
-        Err(why) => Ok(DriverOutcome::NoHeader(why)),
+        Ok(is_new) => put_installation(alloc, names, parts, is_new, pictures),
+        Err(why) => Ok(RestOutcome::NoHeader(why)),
     }
 }
 
-/// Writes the files of a driver, none of which may be one of the inputs. A user's header that is there stays as it is. If a file can't be
-/// written, those after it aren't.
-pub(crate) fn put_driver<P: Pictures>(
+/// Writes a driver whose source takes the place of any file, whoever wrote that.
+fn put_forced<P: Pictures>(
     alloc: Global,
     inputs: &[&str],
     names: &DriverNames,
     parts: &DriverParts,
     pictures: &mut P,
 ) -> Result<DriverOutcome, AllocError>
-    ensures { IfOk result (λ outcome. spec.AreDone (P.written pictures.new) (P.tried pictures.old) (P.tried pictures.new)
+    ensures done { IfOk result (λ outcome. spec.AreDone (P.written pictures.new) (P.tried pictures.old) (P.tried pictures.new)
         (spec.attempts_of names.now parts.now.source.items parts.now.header.items parts.now.installation.items outcome)) }
+    ensures place { IfOk result (spec.HasPlace SourcePlace.Forced) }
 {
     let bytes = parts.source.as_slice();
+    let place = SourcePlace::Forced;
     match put(alloc, inputs, names.source.as_str(), bytes, pictures)? {
-        Ok(()) => put_header(alloc, inputs, names, parts, pictures),
-        Err(why) => Ok(DriverOutcome::NoSource(why)),
+        Ok(()) => {
+            let rest = put_rest(alloc, names, parts, pictures)?;
+            Ok(DriverOutcome::Written { place, rest })
+        }
+        Err(why) => Ok(DriverOutcome::NoSource { place, why }),
+    }
+}
+
+/// Writes a driver whose source takes the place of this one, which `emit --into` wrote.
+fn put_over<P: Pictures>(
+    alloc: Global,
+    names: &DriverNames,
+    parts: &DriverParts,
+    found: &[u8],
+    pictures: &mut P,
+) -> Result<DriverOutcome, AllocError>
+    ensures done { (before : Option (List Attempt)) → Grows before (P.tried pictures.old) (Left (string_bytes names.now.source) ∷ []) →
+        IfOk result (λ outcome. spec.AreDone (P.written pictures.new) before (P.tried pictures.new)
+        (spec.attempts_of names.now parts.now.source.items parts.now.header.items parts.now.installation.items outcome)) }
+    ensures place { IfOk result (spec.HasPlace SourcePlace.Own) }
+{
+    let bytes = parts.source.as_slice();
+    let place = SourcePlace::Own;
+    match put_again(alloc, names.source.as_str(), found, bytes, pictures)? {
+        Ok(()) => {
+            let rest = put_rest(alloc, names, parts, pictures)?;
+            Ok(DriverOutcome::Written { place, rest })
+        }
+        Err(why) => Ok(DriverOutcome::NoSource { place, why }),
+    }
+}
+
+/// The source that is there under a name, if `emit --into` wrote it and nobody changed it since.
+fn own_source<I: Inputs>(
+    alloc: Global,
+    inputs: &I,
+    name: &str,
+) -> Result<Option<Vec<u8>>, AllocError>
+    ensures own { IfOk result (λ found. IfSome found (λ bytes. IsOwnSource (I.gives inputs.now) name.now bytes.items)) }
+    ensures other { IfOk result (λ found. IfNone found (IsOther (I.gives inputs.now) name.now)) }
+{
+    let Some(found) = inputs.read(alloc, name)? else {
+        return Ok(None);
+    };
+    if is_stamped(alloc, found.as_slice())? {
+        Ok(Some(found))
+    } else {
+        Ok(None)
+    }
+}
+
+/// Writes a driver where something is there under its source's name, if that is a source as `emit --into` wrote it.
+fn put_beside<I: Inputs, P: Pictures>(
+    alloc: Global,
+    inputs: &I,
+    names: &DriverNames,
+    parts: &DriverParts,
+    pictures: &mut P,
+) -> Result<DriverOutcome, AllocError>
+    ensures done { (before : Option (List Attempt)) → Grows before (P.tried pictures.old) (Left (string_bytes names.now.source) ∷ []) →
+        IfOk result (λ outcome. spec.AreDone (P.written pictures.new) before (P.tried pictures.new)
+        (spec.attempts_of names.now parts.now.source.items parts.now.header.items parts.now.installation.items outcome)) }
+    ensures asked { IfOk result (spec.IsAskedFor (I.gives inputs.now) false (string_bytes names.now.source)) }
+{
+    let name = names.source.as_str();
+    match own_source(alloc, inputs, name)? {
+        Some(found) => put_over(alloc, names, parts, found.as_slice(), pictures),
+        None => Ok(DriverOutcome::Kept(unwritten_lines(alloc, name, OutputFault::Foreign)?)),
+    }
+}
+
+/// Writes the files of a driver. Its source takes the place of one that `emit --into` wrote, or, if it is forced, of any that isn't one of
+/// these inputs; a user's header and an INF file that are there stay as they are. If a file can't be written, those after it aren't.
+pub(crate) fn put_driver<I: Inputs, P: Pictures>(
+    alloc: Global,
+    inputs: &I,
+    given: &[&str],
+    is_forced: bool,
+    names: &DriverNames,
+    parts: &DriverParts,
+    pictures: &mut P,
+) -> Result<DriverOutcome, AllocError>
+    ensures done { IfOk result (λ outcome. spec.AreDone (P.written pictures.new) (P.tried pictures.old) (P.tried pictures.new)
+        (spec.attempts_of names.now parts.now.source.items parts.now.header.items parts.now.installation.items outcome)) }
+    ensures asked { IfOk result (spec.IsAskedFor (I.gives inputs.now) is_forced (string_bytes names.now.source)) }
+{
+    if is_forced {
+        return put_forced(alloc, given, names, parts, pictures);
+    }
+    let place = SourcePlace::Free;
+    match put_new(
+        alloc,
+        names.source.as_str(),
+        parts.source.as_slice(),
+        pictures,
+    )? {
+        Ok(true) => {
+            let rest = put_rest(alloc, names, parts, pictures)?;
+            Ok(DriverOutcome::Written { place, rest })
+        }
+        Ok(false) => put_beside(alloc, inputs, names, parts, pictures),
+        Err(why) => Ok(DriverOutcome::NoSource { place, why }),
     }
 }
 
 // ---- what is said
 
-/// The exit status of a driver: 2 if a file isn't written, else 0.
+/// The exit status of a driver: 2 if a file isn't there, else 0.
 pub(crate) fn driver_status(outcome: &DriverOutcome) -> u8
     ensures { result ≡ spec.driver_status outcome.now }
 {
     match outcome {
-        DriverOutcome::Whole { .. } => 0,
-        DriverOutcome::NoSource(_)
-        | DriverOutcome::NoHeader(_)
-        | DriverOutcome::NoInstallation { .. } => 2,
+        DriverOutcome::Written {
+            rest: RestOutcome::Whole { .. },
+            ..
+        } => 0,
+        _ => 2,
     }
 }
 
@@ -250,6 +414,22 @@ fn kept_line(alloc: Global, is_new: bool, name: &str) -> Result<Vec<u8>, AllocEr
     }
 }
 
+/// The lines for a driver all of whose files are there.
+fn whole_lines(
+    alloc: Global,
+    names: &DriverNames,
+    has_new_header: bool,
+    has_new_installation: bool,
+) -> Result<Vec<u8>, AllocError>
+    ensures { IfOk result (λ lines. lines.items ≡ spec.kept_line has_new_header (string_bytes names.now.header)
+        ++ spec.kept_line has_new_installation (string_bytes names.now.installation)) }
+{
+    let mut lines = kept_line(alloc, has_new_header, names.header.as_str())?;
+    let last = kept_line(alloc, has_new_installation, names.installation.as_str())?;
+    lines.extend_from_slice(last.as_slice())?;
+    Ok(lines)
+}
+
 /// The lines for a driver whose header isn't made.
 fn no_header_lines(alloc: Global, names: &DriverNames, why: &[u8]) -> Result<Vec<u8>, AllocError>
     ensures { IfOk result (λ lines. lines.items ≡ spec.written_line (string_bytes names.now.source)
@@ -261,7 +441,7 @@ fn no_header_lines(alloc: Global, names: &DriverNames, why: &[u8]) -> Result<Vec
     Ok(lines)
 }
 
-/// The lines for a driver whose INF file isn't written.
+/// The lines for a driver whose INF file isn't made.
 fn no_installation_lines(
     alloc: Global,
     names: &DriverNames,
@@ -280,20 +460,34 @@ fn no_installation_lines(
     Ok(lines)
 }
 
-/// Whole lines for the standard error: that the user's header is as it was; or which file isn't written and why, after those on the files
-/// before it.
+/// The lines on the files after a source that is written.
+fn rest_lines(alloc: Global, names: &DriverNames, rest: &RestOutcome) -> Result<Vec<u8>, AllocError>
+    ensures { IfOk result (λ lines. lines.items ≡ spec.rest_lines names.now rest.now) }
+{
+    match rest {
+        RestOutcome::Whole {
+            has_new_header,
+            has_new_installation,
+        } => whole_lines(alloc, names, *has_new_header, *has_new_installation),
+        RestOutcome::NoHeader(why) => no_header_lines(alloc, names, why.as_slice()),
+        RestOutcome::NoInstallation {
+            has_new_header,
+            why,
+        } => no_installation_lines(alloc, names, *has_new_header, why.as_slice()),
+    }
+}
+
+/// Whole lines for the standard error: that the user's header or the INF file is as it was; or which file isn't written and why, after those
+/// on the files before it.
 pub(crate) fn driver_lines(alloc: Global, driver: &Driver) -> Result<Vec<u8>, AllocError>
     ensures { IfOk result (λ lines. lines.items ≡ spec.driver_lines driver.now.names driver.now.outcome) }
 {
     let names = &driver.names;
     match &driver.outcome {
-        DriverOutcome::Whole { is_new } => kept_line(alloc, *is_new, names.header.as_str()),
-        DriverOutcome::NoSource(why) => {
+        DriverOutcome::Kept(why) => unwritten_line(alloc, names.source.as_str(), why.as_slice()),
+        DriverOutcome::NoSource { why, .. } => {
             unwritten_line(alloc, names.source.as_str(), why.as_slice())
         }
-        DriverOutcome::NoHeader(why) => no_header_lines(alloc, names, why.as_slice()),
-        DriverOutcome::NoInstallation { is_new, why } => {
-            no_installation_lines(alloc, names, *is_new, why.as_slice())
-        }
+        DriverOutcome::Written { rest, .. } => rest_lines(alloc, names, rest),
     }
 }

@@ -2,7 +2,9 @@
 
 ghost use Rattle.flt_files.specs.Attempts.{Does};
 ghost use Rattle.flt_commands_texts.specs.Emit.{IsReadBack, part_text};
+ghost use Rattle.flt_commands_texts.specs.Driver.{IsAskedFor};
 ghost use Rattle.flt_commands_texts.specs.EmitInto as spec;
+ghost use Rattle.flt_commands_texts.specs.Stamp.{stamped as stamped_as};
 ghost use Rattle.flt_files.specs.Inputs.{Says};
 ghost use Rattle.flt_files.specs.Names.{names_of};
 ghost use Rattle.flt_emit.specs.Files.{installation, user_header};
@@ -11,11 +13,12 @@ ghost use Rattle.flt_graph.specs.Lowering.{IsLowered};
 ghost use Rattle.flt_tree.specs.WellFormed.{IsWellFormed};
 ghost use Rattle.flt_words.specs.Request.{EmitInto};
 ghost use Rattle.flt_words.specs.declared.request.Part.TheVariants.{Source};
-ghost use Rattle.std.specs.Prelude.{◌≡◌, [], ◌∷◌, None, IfOk, map, option_map, true};
+ghost use Rattle.std.specs.Prelude.{◌≡◌, [], ◌∷◌, None, IfOk, map, option_map, string_bytes, true};
 
 use crate::answer::TextAnswer;
 use crate::driver::{Driver, DriverParts, driver_lines, names_in, put_driver};
 use crate::emit::{EmitFault, create_in, mixed_lines, source_of};
+use crate::stamp::stamped;
 use flt_analyse::{AnalyseFault, analyse_plainly};
 use flt_check::check;
 use flt_emit::{emit_header, emit_installation};
@@ -32,13 +35,14 @@ use std::alloc::{AllocError, Global};
 fn parts_of(alloc: Global, tree: &Tree, listed: &[Spot]) -> Result<DriverParts, AllocError>
     requires well_formed { IsWellFormed tree.now.filter }
     requires fit { returns_fit tree.now.filter ≡ true }
-    ensures source { IfOk result (λ parts. parts.source.items ≡ part_text Source listed.now tree.now.filter) }
-    ensures read { IfOk result (λ parts. IsReadBack Source tree.now.filter parts.source.items) }
+    ensures source { IfOk result (λ parts. parts.source.items ≡ stamped_as (part_text Source listed.now tree.now.filter)) }
+    ensures read { IfOk result (λ parts. IsReadBack Source tree.now.filter (part_text Source listed.now tree.now.filter)) }
     ensures header { IfOk result (λ parts. parts.header.items ≡ user_header tree.now.filter) }
     ensures installation { IfOk result (λ parts. parts.installation.items ≡ installation tree.now.filter) }
 {
+    let source = source_of(alloc, tree, listed)?;
     Ok(DriverParts {
-        source: source_of(alloc, tree, listed)?,
+        source: stamped(alloc, source.as_slice())?,
         header: emit_header(alloc, tree)?,
         installation: emit_installation(alloc, tree)?,
     })
@@ -46,37 +50,42 @@ fn parts_of(alloc: Global, tree: &Tree, listed: &[Spot]) -> Result<DriverParts, 
 
 /// Writes a driver in which each context has one kind, no open is completed and each return fits. All of it is in memory before the first
 /// file is written.
-fn write_known<P: Pictures>(
+fn write_known<I: Inputs, P: Pictures>(
     alloc: Global,
-    inputs: &[&str],
+    inputs: &I,
+    given: &[&str],
     folder: &str,
+    is_forced: bool,
     tree: &Tree,
     listed: &[Spot],
     pictures: &mut P,
 ) -> Result<Driver, AllocError>
     requires well_formed { IsWellFormed tree.now.filter }
     requires fit { returns_fit tree.now.filter ≡ true }
-    ensures { IfOk result (spec.IsPut (P.written pictures.new)
+    ensures put { IfOk result (spec.IsPut (P.written pictures.new)
         (Does (pictures.new ≡ pictures.old) (P.tried pictures.old) (P.tried pictures.new)) folder.now tree.now.filter listed.now) }
+    ensures asked { IfOk result (λ driver. IsAskedFor (I.gives inputs.now) is_forced (string_bytes driver.names.source) driver.outcome) }
 {
     let names = names_in(alloc, folder, tree.filter.name.as_slice())?;
     let parts = parts_of(alloc, tree, listed)?;
-    let outcome = put_driver(alloc, inputs, &names, &parts, pictures)?;
+    let outcome = put_driver(alloc, inputs, given, is_forced, &names, &parts, pictures)?;
     Ok(Driver { names, outcome })
 }
 
 /// Writes the driver of a filter, or says why there is none.
-fn write_filter<P: Pictures>(
+fn write_filter<I: Inputs, P: Pictures>(
     alloc: Global,
-    inputs: &[&str],
+    inputs: &I,
+    given: &[&str],
     folder: &str,
+    is_forced: bool,
     tree: &Tree,
     graph: &Graph,
     pictures: &mut P,
 ) -> Result<TextAnswer, AllocError>
     requires lowered { IsLowered tree.now.filter graph.now }
     requires well_formed { IsWellFormed tree.now.filter }
-    ensures writes { IfOk result (spec.Writes folder.now tree.now.filter graph.now) }
+    ensures writes { IfOk result (spec.Writes (I.gives inputs.now) is_forced folder.now tree.now.filter graph.now) }
     ensures put { IfOk result (spec.IsPutFor (P.written pictures.new)
         (Does (pictures.new ≡ pictures.old) (P.tried pictures.old) (P.tried pictures.new)) folder.now tree.now.filter graph.now) }
 {
@@ -92,43 +101,58 @@ fn write_filter<P: Pictures>(
     if let Some(line) = unfit_return(tree) {
         return Ok(TextAnswer::NotEmitted(EmitFault::Return { line }));
     }
-    let driver = write_known(alloc, inputs, folder, tree, listed.as_slice(), pictures)?;
+    let driver = write_known(
+        alloc,
+        inputs,
+        given,
+        folder,
+        is_forced,
+        tree,
+        listed.as_slice(),
+        pictures,
+    )?;
     Ok(TextAnswer::EmittedInto(driver))
 }
 
 // ---- texts
 
 /// Writes the driver of a text that is analysed.
-fn write_analysed<'a, P: Pictures>(
+fn write_analysed<'a, I: Inputs, P: Pictures>(
     alloc: Global,
-    inputs: &[&str],
+    inputs: &I,
+    given: &[&str],
     folder: &str,
+    is_forced: bool,
     text: &[u8],
     pictures: &mut P,
 ) -> Result<TextAnswer, Failure<'a>>
-    ensures said { spec.IsEmittedInto folder.now (text.now ∷ []) result }
+    ensures said { spec.IsEmittedInto (I.gives inputs.now) is_forced folder.now (text.now ∷ []) result }
     ensures put { spec.ArePut (P.written pictures.new)
         (Does (pictures.new ≡ pictures.old) (P.tried pictures.old) (P.tried pictures.new)) folder.now (text.now ∷ []) result }
 {
     let tree = parse(alloc, text)?;
     let graph = lower(alloc, &tree)?;
     match analyse_plainly(alloc, &graph) {
-        Ok(_) => Ok(write_filter(alloc, inputs, folder, &tree, &graph, pictures)?),
+        Ok(_) => Ok(write_filter(
+            alloc, inputs, given, folder, is_forced, &tree, &graph, pictures,
+        )?),
         Err(AnalyseFault::Refused(refusal)) => Ok(TextAnswer::Refused(refusal)),
         Err(AnalyseFault::OutOfMemory) => Err(Failure::OutOfMemory),
     }
 }
 
 /// Writes the driver of a text that is checked.
-fn write_checked<'a, P: Pictures>(
+fn write_checked<'a, I: Inputs, P: Pictures>(
     alloc: Global,
-    inputs: &[&str],
+    inputs: &I,
+    given: &[&str],
     folder: &str,
+    is_forced: bool,
     text: &[u8],
     certificate: &[u8],
     pictures: &mut P,
 ) -> Result<TextAnswer, Failure<'a>>
-    ensures said { spec.IsEmittedInto folder.now (text.now ∷ certificate.now ∷ []) result }
+    ensures said { spec.IsEmittedInto (I.gives inputs.now) is_forced folder.now (text.now ∷ certificate.now ∷ []) result }
     ensures put { spec.ArePut (P.written pictures.new)
         (Does (pictures.new ≡ pictures.old) (P.tried pictures.old) (P.tried pictures.new)) folder.now
         (text.now ∷ certificate.now ∷ []) result }
@@ -137,7 +161,9 @@ fn write_checked<'a, P: Pictures>(
     let cert = flt_cert::read(alloc, certificate)?;
     let graph = lower(alloc, &tree)?;
     match check(&graph, &cert) {
-        Ok(()) => Ok(write_filter(alloc, inputs, folder, &tree, &graph, pictures)?),
+        Ok(()) => Ok(write_filter(
+            alloc, inputs, given, folder, is_forced, &tree, &graph, pictures,
+        )?),
         Err(refusal) => Ok(TextAnswer::Refused(refusal)),
     }
 }
@@ -147,13 +173,14 @@ pub fn emit_files_into<'a, I: Inputs, P: Pictures>(
     alloc: Global,
     inputs: &I,
     folder: &str,
+    is_forced: bool,
     file: &'a str,
     cert: Option<&'a str>,
     pictures: &mut P,
     contents: &mut Contents,
 ) -> Result<TextAnswer, Failure<'a>>
-    ensures said { Says (I.gives inputs.now) (names_of (EmitInto folder.now file.entry.now (option_map (λ name. name.now) cert.entry)))
-        (spec.IsEmittedInto folder.now) (map (λ text. text.items) contents.new.texts.items) result }
+    ensures said { Says (I.gives inputs.now) (names_of (EmitInto folder.now is_forced file.entry.now (option_map (λ name. name.now) cert.entry)))
+        (spec.IsEmittedInto (I.gives inputs.now) is_forced folder.now) (map (λ text. text.items) contents.new.texts.items) result }
     ensures put { spec.ArePut (P.written pictures.new)
         (Does (pictures.new ≡ pictures.old) (P.tried pictures.old) (P.tried pictures.new)) folder.now
         (map (λ text. text.items) contents.new.texts.items) result }
@@ -162,14 +189,16 @@ pub fn emit_files_into<'a, I: Inputs, P: Pictures>(
         None => {
             contents.texts = read_all(alloc, inputs, &[file])?;
             let text = contents.texts[0].as_slice();
-            write_analysed(alloc, &[file], folder, text, pictures)
+            write_analysed(alloc, inputs, &[file], folder, is_forced, text, pictures)
         }
         Some(cert) => {
             contents.texts = read_all(alloc, inputs, &[file, cert])?;
             write_checked(
                 alloc,
+                inputs,
                 &[file, cert],
                 folder,
+                is_forced,
                 contents.texts[0].as_slice(),
                 contents.texts[1].as_slice(),
                 pictures,

@@ -48,10 +48,11 @@ fn outcome_of(alloc: Global, input: &[u8]) -> Result<Outcome, AllocError>
     }
 }
 
-/// Writes a layout into the file of a name. Returns the file's outcome.
+/// Writes a layout into the file of a name, if that still has the bytes that were read. Returns the file's outcome.
 fn put_layout<P: Pictures>(
     alloc: Global,
     name: &str,
+    read: &[u8],
     layout: Vec<u8>,
     pictures: &mut P,
 ) -> Result<Outcome, AllocError>
@@ -60,7 +61,7 @@ fn put_layout<P: Pictures>(
     ensures wanted { IfOk result (λ outcome. spec.is_wanted FormatMode.Write outcome ≡ true) }
     ensures kept { (other bytes : List ℕ) → P.written pictures.old other bytes → P.written pictures.new other bytes }
 {
-    match pictures.write(alloc, &[], name, layout.as_slice())? {
+    match pictures.rewrite(alloc, name, read, layout.as_slice())? {
         Ok(()) => Ok(Outcome::Other(layout)),
         Err(why) => {
             let lines = unwritten_lines(alloc, name, why)?;
@@ -73,6 +74,7 @@ fn put_layout<P: Pictures>(
 fn put_other<P: Pictures>(
     alloc: Global,
     name: &str,
+    read: &[u8],
     outcome: Outcome,
     pictures: &mut P,
 ) -> Result<Outcome, AllocError>
@@ -82,7 +84,7 @@ fn put_other<P: Pictures>(
     ensures kept { (other bytes : List ℕ) → P.written pictures.old other bytes → P.written pictures.new other bytes }
 {
     match outcome {
-        Outcome::Other(layout) => put_layout(alloc, name, layout, pictures),
+        Outcome::Other(layout) => put_layout(alloc, name, read, layout, pictures),
         Outcome::Same(layout) => Ok(Outcome::Same(layout)),
         Outcome::Unwritten(layout, why) => Ok(Outcome::Unwritten(layout, why)),
         Outcome::Fault(fault) => Ok(Outcome::Fault(fault)),
@@ -95,6 +97,7 @@ fn written<P: Pictures>(
     alloc: Global,
     mode: FormatMode,
     name: &str,
+    read: &[u8],
     outcome: Outcome,
     pictures: &mut P,
 ) -> Result<Outcome, AllocError>
@@ -108,7 +111,7 @@ fn written<P: Pictures>(
     match mode {
         FormatMode::Print => Ok(outcome),
         FormatMode::Check => Ok(outcome),
-        FormatMode::Write => put_other(alloc, name, outcome, pictures),
+        FormatMode::Write => put_other(alloc, name, read, outcome, pictures),
     }
 }
 
@@ -127,7 +130,7 @@ fn file_outcome<P: Pictures>(
     ensures kept { (other bytes : List ℕ) → P.written pictures.old other bytes → P.written pictures.new other bytes }
 {
     let outcome = outcome_of(alloc, input)?;
-    let outcome = written(alloc, mode, name, outcome, pictures)?;
+    let outcome = written(alloc, mode, name, input, outcome, pictures)?;
     let name = String::from_str(alloc, name)?;
     Ok(FileOutcome { name, outcome })
 }

@@ -13,13 +13,14 @@ mod extract;
 mod format;
 mod layout_remarks;
 mod outcomes;
+mod stamp;
 mod thin;
 
 pub use analyse::analyse_file;
 pub use answer::TextAnswer;
 pub use check::check_files;
 pub use compare::compare_files;
-pub use driver::{Driver, DriverNames, DriverOutcome};
+pub use driver::{Driver, DriverNames, DriverOutcome, RestOutcome, SourcePlace};
 pub use emit::{EmitFault, emit_files};
 pub use emit_into::{emit_files_into, into_remark};
 pub use extract::extract_files;

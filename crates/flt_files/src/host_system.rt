@@ -11,7 +11,7 @@ use std::cell::Cell;
 use std::fs::{self, File, Metadata, OpenOptions};
 use std::io;
 use std::io::{Read, Stdin};
-use std::os::unix::fs::MetadataExt;
+use std::os::unix::fs::{MetadataExt, OpenOptionsExt, fchown};
 
 /// A file or a stream of the system that is read, with a count of its failures and the reason of the last one.
 #[derive(Drop)]
@@ -135,7 +135,7 @@ impl System for HostSystem<'_> {
             Ok(found) if !found.is_file() => Ok(Place::Stream),
             Ok(found) if self.is_among(&found, inputs) => Err(OutputFault::Input),
             Ok(_) => self.place_of_file(name),
-            Err(fault) if fault.kind() == io::ErrorKind::NotFound => Ok(Place::File),
+            Err(fault) if fault.kind() == io::ErrorKind::NotFound => Ok(Place::Free),
             Err(fault) => Err(OutputFault::Refused(fault)),
         }
     }
@@ -144,10 +144,12 @@ impl System for HostSystem<'_> {
         self.open_to_write(name)
     }
 
-    fn create(&self, name: &str) -> Result<Option<File>, OutputFault> {
+    fn create(&self, name: &str, is_private: bool) -> Result<Option<File>, OutputFault> {
+        let rights = if is_private { PRIVATE } else { COMMON };
         match OpenOptions::new()
             .write(true)
             .create_new(true)
+            .mode(rights)
             .open(self.rt, name)
         {
             Ok(file) => Ok(Some(file)),
@@ -232,16 +234,32 @@ impl HostSystem<'_> {
         }
     }
 
-    /// Puts a file that was made under one name in the place of another, with the rights of the file that was there.
+    /// Puts a file that was made under one name in the place of another, with the owner, the group and the rights of the file that was there.
     fn try_put(&self, file: &File, made: &str, name: &str) -> io::Result<()> {
         if let Ok(found) = fs::symlink_metadata(self.rt, name) {
             if found.is_file() {
+                take_owner(file, &found)?;
                 file.set_permissions(found.permissions())?;
             }
         }
         file.sync_all()?;
         fs::rename(self.rt, made, name)
     }
+}
+
+/// The rights of a new file that only its owner may read and write.
+const PRIVATE: u32 = 0o600;
+
+/// Those of another one, of which the system takes what the user's mask has.
+const COMMON: u32 = 0o666;
+
+/// Gives a file the owner and the group of another one.
+fn take_owner(file: &File, found: &Metadata) -> io::Result<()> {
+    let own = file.metadata()?;
+    if own.uid() == found.uid() && own.gid() == found.gid() {
+        return Ok(());
+    }
+    fchown(file, Some(found.uid()), Some(found.gid()))
 }
 
 /// Why a file isn't opened, if it is one of those that aren't.

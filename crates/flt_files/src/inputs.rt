@@ -62,6 +62,9 @@ pub trait Pictures {
     // Something is there under this name.
     ghost has: { Self → List ℕ → Type 0 };
 
+    // The file of this name had these bytes when it was looked at.
+    ghost held: { Self → List ℕ → List ℕ → Type 0 };
+
     /// Writes these bytes as the file of this name, unless it is one of the inputs. Returns why that failed, if it did; a regular file is
     /// then as it was.
     fn write(
@@ -77,6 +80,23 @@ pub trait Pictures {
         ensures failed { IfOk result (λ done. OnErr done (attempts.Grows (tried self.old) (tried self.new)
             (attempts.Failed name.now ∷ []))) }
         // What was written before is written still.
+        ensures kept { (other held : List ℕ) → written self.old other held → written self.new other held };
+
+    /// Writes these bytes as the file of this name, if it still has the bytes that were read, or has these already. Returns why that failed,
+    /// if it did; the file is then as it was.
+    fn rewrite(
+        &mut self,
+        alloc: Global,
+        name: &str,
+        read: &[u8],
+        bytes: &[u8],
+    ) -> Result<Result<(), OutputFault>, AllocError>
+        ensures done { IfOk result (λ done. OnOk done (written self.new name.now bytes.now)) }
+        ensures held { IfOk result (λ done. OnOk done (held self.new name.now read.now ⊎ held self.new name.now bytes.now)) }
+        ensures wrote { IfOk result (λ done. OnOk done (attempts.Grows (tried self.old) (tried self.new)
+            (attempts.Wrote name.now bytes.now ∷ []))) }
+        ensures failed { IfOk result (λ done. OnErr done (attempts.Grows (tried self.old) (tried self.new)
+            (attempts.Failed name.now ∷ []))) }
         ensures kept { (other held : List ℕ) → written self.old other held → written self.new other held };
 
     /// Writes these bytes as a new file of this name. Returns false if something of this name is there, which stays as it is; or why no

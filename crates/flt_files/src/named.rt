@@ -98,12 +98,13 @@ fn put_part<S: System>(
     system: &S,
     part: &str,
     name: &str,
+    is_private: bool,
     bytes: &[u8],
 ) -> Result<bool, OutputFault>
     ensures { IfOk result (λ done. IsTrue done →
         spec.IsFilled (S.makes system.now) part.now bytes.now × S.puts system.now part.now name.now) }
 {
-    let Some(file) = system.create(part)? else {
+    let Some(file) = system.create(part, is_private)? else {
         return Ok(false);
     };
     let mut file = file;
@@ -121,18 +122,125 @@ fn put_part<S: System>(
 }
 
 /// Writes these bytes into a new file beside that of a name, and puts it in its place. If that fails, no such file is left, and the file of
-/// the name is as it was.
+/// the name is as it was. Nobody else reads a private one before it is there.
 fn replace<S: System>(
     alloc: Global,
     system: &S,
     name: &str,
+    is_private: bool,
     bytes: &[u8],
 ) -> Result<Result<(), OutputFault>, AllocError>
     ensures { IfOk result (λ done. OnOk done (spec.IsWritten (S.makes system.now) (S.puts system.now) name.now bytes.now)) }
 {
     for number in 1..=PARTS {
         let part = part_of(alloc, name, number)?;
-        match put_part(system, part.as_str(), name, bytes) {
+        match put_part(system, part.as_str(), name, is_private, bytes) {
+            Ok(true) => return Ok(Ok(())),
+            Ok(false) => {}
+            Err(why) => return Ok(Err(why)),
+        }
+    }
+    let fault = io::Error::from(io::ErrorKind::AlreadyExists);
+    Ok(Err(OutputFault::Refused(fault)))
+}
+
+/// Whether the file of a name has one of these bytes or the other.
+fn has_either<S: System>(
+    alloc: Global,
+    system: &S,
+    name: &str,
+    one: &[u8],
+    other: &[u8],
+) -> Result<bool, AllocError>
+    ensures { IfOk result (λ has. IsTrue has → spec.IsHeld (S.holds system.now) name.now one.now
+        ⊎ spec.IsHeld (S.holds system.now) name.now other.now) }
+{
+    let Some(file) = system.open(name) else {
+        return Ok(false);
+    };
+    let mut file = file;
+    let Some(found) = read_within(alloc, &mut file)? else {
+        return Ok(false);
+    };
+    if found.as_slice() == one {
+        return Ok(true);
+    }
+    Ok(found.as_slice() == other)
+}
+
+/// The same as `put_part`, of a private file, if that of the name still has the bytes that were read, or has these already.
+fn put_part_over<S: System>(
+    alloc: Global,
+    system: &S,
+    part: &str,
+    name: &str,
+    read: &[u8],
+    bytes: &[u8],
+) -> Result<Result<bool, OutputFault>, AllocError>
+    ensures put { IfOk result (λ done. IfOk done (λ is_put. IsTrue is_put →
+        spec.IsFilled (S.makes system.now) part.now bytes.now × S.puts system.now part.now name.now)) }
+    ensures held { IfOk result (λ done. IfOk done (λ is_put. IsTrue is_put →
+        spec.IsHeld (S.holds system.now) name.now read.now ⊎ spec.IsHeld (S.holds system.now) name.now bytes.now)) }
+{
+    let made = match system.create(part, true) {
+        Ok(made) => made,
+        Err(why) => return Ok(Err(why)),
+    };
+    let Some(file) = made else {
+        return Ok(Ok(false));
+    };
+    let mut file = file;
+    if let Err(why) = fill(&mut file, bytes) {
+        system.discard(part);
+        return Ok(Err(why));
+    }
+    match has_either(alloc, system, name, read, bytes) {
+        Ok(true) => put_or_discard(system, file, part, name),
+        Ok(false) => {
+            system.discard(part);
+            Ok(Err(OutputFault::Changed))
+        }
+        Err(refused) => {
+            system.discard(part);
+            Err(refused)
+        }
+    }
+}
+
+/// Puts a file that was made under one name in the place of another, or removes it.
+fn put_or_discard<S: System>(
+    system: &S,
+    file: S::Made,
+    part: &str,
+    name: &str,
+) -> Result<Result<bool, OutputFault>, AllocError>
+    ensures { IfOk result (λ done. OnOk done (S.puts system.now part.now name.now)) }
+{
+    match system.put(file, part, name) {
+        Ok(()) => Ok(Ok(true)),
+        Err(why) => {
+            system.discard(part);
+            Ok(Err(why))
+        }
+    }
+}
+
+/// Writes these bytes into a new file beside that of a name, and puts it in its place if that still has the bytes that were read, or
+/// has these already. If that fails, no such file is left, and the file of the name is as it was.
+fn replace_read<S: System>(
+    alloc: Global,
+    system: &S,
+    name: &str,
+    read: &[u8],
+    bytes: &[u8],
+) -> Result<Result<(), OutputFault>, AllocError>
+    ensures done { IfOk result (λ done. OnOk done (spec.IsWritten (S.makes system.now) (S.puts system.now) name.now bytes.now)) }
+    ensures held { IfOk result (λ done. OnOk done (spec.IsHeld (S.holds system.now) name.now read.now
+        ⊎ spec.IsHeld (S.holds system.now) name.now bytes.now)) }
+{
+    for number in 1..=PARTS {
+        let part = part_of(alloc, name, number)?;
+        match put_part_over(alloc, system, part.as_str(), name, read, bytes)? {
             Ok(true) => return Ok(Ok(())),
             Ok(false) => {}
             Err(why) => return Ok(Err(why)),
@@ -147,7 +255,7 @@ fn add_new<S: System>(system: &S, name: &str, bytes: &[u8]) -> Result<bool, Outp
     ensures new { IfOk result (λ is_new. IsTrue is_new → spec.IsFilled (S.makes system.now) name.now bytes.now) }
     ensures taken { IfOk result (λ is_new. is_new ≡ false → S.has system.now name.now) }
 {
-    let Some(file) = system.create(name)? else {
+    let Some(file) = system.create(name, false)? else {
         return Ok(false);
     };
     let mut file = file;
@@ -230,7 +338,7 @@ impl<S: System> Inputs for SystemFiles<'_, S> {
 }
 
 impl<S: System> Pictures for SystemFiles<'_, S> {
-    ghost use Rattle.flt_files.specs.System.{IsWritten};
+    ghost use Rattle.flt_files.specs.System.{IsHeld, IsWritten};
     ghost use Rattle.std.specs.Prelude.{None};
 
     ghost written = { λ named. IsWritten (S.makes named.system.now) (S.puts named.system.now) };
@@ -239,6 +347,8 @@ impl<S: System> Pictures for SystemFiles<'_, S> {
     ghost tried = { λ _. None };
 
     ghost has = { λ named. S.has named.system.now };
+
+    ghost held = { λ named. IsHeld (S.holds named.system.now) };
 
     fn write(
         &mut self,
@@ -249,7 +359,28 @@ impl<S: System> Pictures for SystemFiles<'_, S> {
     ) -> Result<Result<(), OutputFault>, AllocError> {
         match self.system.place(name, inputs) {
             Ok(Place::Stream) => Ok(pour(self.system, name, bytes)),
-            Ok(Place::File) => replace(alloc, self.system, name, bytes),
+            Ok(Place::Free) => replace(alloc, self.system, name, false, bytes),
+            Ok(Place::File) => replace(alloc, self.system, name, true, bytes),
+            Err(why) => Ok(Err(why)),
+        }
+    }
+
+    fn rewrite(
+        &mut self,
+        alloc: Global,
+        name: &str,
+        read: &[u8],
+        bytes: &[u8],
+    ) -> Result<Result<(), OutputFault>, AllocError> {
+        match self.system.place(name, &[]) {
+            Ok(Place::Stream) => Ok(Err(OutputFault::Stream)),
+            Ok(Place::Free) | Ok(Place::File) => replace_read(
+                alloc,
+                self.system,
+                name,
+                read,
+                bytes,
+            ),
             Err(why) => Ok(Err(why)),
         }
     }

@@ -34,7 +34,9 @@ pub trait Reader {
 /// The kind of a place to which bytes will be written.
 #[derive(Clone, Copy, Debug, PartialEq, Eq)]
 pub enum Place {
-    /// Nothing, or a regular file, whose place a new one takes.
+    /// Nothing: a new file is made there.
+    Free,
+    /// A regular file, whose place a new one takes.
     File,
     /// A pipe or a device, which takes bytes as it is.
     Stream,
@@ -89,12 +91,13 @@ pub trait System {
     fn stream(&self, name: &str) -> Result<Self::Made, OutputFault>
         ensures { IfOk result (λ file. makes self.now name.now (Self.Made.contents file)) };
 
-    /// A new and empty file of a name; none if the name is taken.
-    fn create(&self, name: &str) -> Result<Option<Self::Made>, OutputFault>
+    /// A new and empty file of a name, which others may read unless it is private; none if the name is taken.
+    fn create(&self, name: &str, is_private: bool) -> Result<Option<Self::Made>, OutputFault>
         ensures made { IfOk result (λ made. IfSome made (λ file. makes self.now name.now (Self.Made.contents file))) }
         ensures taken { IfOk result (λ made. IfNone made (has self.now name.now)) };
 
-    /// Puts a file that was made under one name in the place of another, once the system keeps its bytes.
+    /// Puts a file that was made under one name in the place of another, once the system keeps its bytes. It gets the rights, the owner
+    /// and the group of the file that was there.
     fn put(&self, file: Self::Made, made: &str, name: &str) -> Result<(), OutputFault>
         ensures { OnOk result (puts self.now made.now name.now) };
 

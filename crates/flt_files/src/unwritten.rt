@@ -15,6 +15,12 @@ pub enum OutputFault {
     /// It is one of the inputs, whatever its name.
     Input,
     Folder,
+    /// Something is there that `emit --into` didn't write, or that was changed since.
+    Foreign,
+    /// It was changed since it was read.
+    Changed,
+    /// It is a pipe or a device, which has no bytes to replace.
+    Stream,
     /// The system refuses it, and says why.
     Refused(io::Error),
 }
@@ -26,6 +32,9 @@ impl OutputFault {
             OutputFault::Link => "name the file that it leads to",
             OutputFault::Input => "name another file",
             OutputFault::Folder => "name a file in it",
+            OutputFault::Foreign => "name another folder, or add `--force`, which replaces it",
+            OutputFault::Changed => "run the command again",
+            OutputFault::Stream => "name a file",
             OutputFault::Refused(_) =>
                 "it takes a folder with room for a new file, and the right to write there",
         }
@@ -37,6 +46,12 @@ impl OutputFault {
             OutputFault::Link => String::from_str(alloc, "it is a symbolic link"),
             OutputFault::Input => String::from_str(alloc, "it is one of the inputs"),
             OutputFault::Folder => String::from_str(alloc, "this is a folder"),
+            OutputFault::Foreign => String::from_str(
+                alloc,
+                "there is a file that `emit --into` didn't write, or that was changed since",
+            ),
+            OutputFault::Changed => String::from_str(alloc, "it was changed since it was read"),
+            OutputFault::Stream => String::from_str(alloc, "it is a pipe or a device"),
             OutputFault::Refused(fault) => format!(in alloc; "{fault}"),
         }
     }

@@ -109,6 +109,10 @@ part_rule = record (new_rule (codes "part")) { long = Some (codes "part"); value
 abbrev pub into_rule : Rule
 into_rule = record (new_rule (codes "into")) { long = Some (codes "into"); value_names = 1 }
 
+-- `--force`
+abbrev pub force_rule : Rule
+force_rule = record (new_rule (codes "force")) { long = Some (codes "force"); action = Some SetTrue }
+
 -- ---- commands
 
 abbrev pub bare_check_app : App
@@ -170,9 +174,9 @@ format_app = with_rule (with_rule (with_rule bare_format_app check_rule) write_r
 abbrev pub bare_emit_app : App
 bare_emit_app = new_app (codes "emit")
 
--- `emit [--part PART] [--into FOLDER] FILE [CERT]`
+-- `emit [--part PART] [--into FOLDER] [--force] FILE [CERT]`
 abbrev pub emit_app : App
-emit_app = with_rule (with_rule (with_rule (with_rule bare_emit_app part_rule) into_rule) text_rule) cert_rule
+emit_app = with_rule (with_rule (with_rule (with_rule (with_rule bare_emit_app part_rule) into_rule) force_rule) text_rule) cert_rule
 
 abbrev pub bare_compare_app : App
 bare_compare_app = new_app (codes "compare")

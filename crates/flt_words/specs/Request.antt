@@ -31,7 +31,7 @@ pub data Asked : Type 0 where
   Format : (mode : FormatMode) (files : List Text) → Asked
   Pages : (names : List Text) → Asked
   Emit : (part : Part) (file : Text) (cert : Option Text) → Asked
-  EmitInto : (folder file : Text) (cert : Option Text) → Asked
+  EmitInto : (folder : Text) (is_forced : Bool) (file : Text) (cert : Option Text) → Asked
   Compare : (files : List Text) → Asked
   Serve : Asked
 
@@ -53,5 +53,6 @@ asked_of (request.Pages names) = Some (Pages (map (λ name. name.now) names.item
 asked_of request.Serve = Some Serve
 asked_of (request.Usage text) = None
 asked_of (request.Emit part file cert) = Some (Emit part file.now (option_map (λ name. name.now) cert))
-asked_of (request.EmitInto folder file cert) = Some (EmitInto folder.now file.now (option_map (λ name. name.now) cert))
+asked_of (request.EmitInto folder is_forced file cert) =
+    Some (EmitInto folder.now is_forced file.now (option_map (λ name. name.now) cert))
 asked_of (request.Compare files) = Some (Compare (map (λ name. name.now) files.items))

@@ -219,15 +219,19 @@ abbrev pub emit_with : List Row → Part → Asked
 emit_with rows part = Emit part (text_of (codes "FILE") rows) (first_of (codes "CERT") rows)
 
 abbrev pub emit_into : List Row → Text → Asked
-emit_into rows folder = EmitInto folder (text_of (codes "FILE") rows) (first_of (codes "CERT") rows)
+emit_into rows folder = EmitInto folder (is_set (codes "force") rows) (text_of (codes "FILE") rows) (first_of (codes "CERT") rows)
 
 -- a folder without a name asks for nothing
 abbrev pub emit_in : List Row → Text → Option Asked
 emit_in rows folder = if bytes_eq folder [] then None else Some (emit_into rows folder)
 
--- the name of a part and a folder exclude each other, and a part that there isn't asks for nothing
-abbrev pub emit_by : List Row → Option Text → Option Text → Option Asked
-emit_by rows part None = option_map (emit_with rows) (part_of rows)
+-- a part that there isn't asks for nothing, nor does one that would replace a source
+abbrev pub emit_part : List Row → Option Asked
+emit_part rows = if is_set (codes "force") rows then None else option_map (emit_with rows) (part_of rows)
+
+-- the name of a part and a folder exclude each other
+unfoldable pub emit_by : List Row → Option Text → Option Text → Option Asked
+emit_by rows part None = emit_part rows
 emit_by rows None (Some folder) = emit_in rows folder
 emit_by rows (Some part) (Some folder) = None
 

@@ -267,8 +267,19 @@ fn into_argument<'a>(alloc: Global) -> Arg<'a>
         .long("into")
         .value_name("FOLDER")
         .help(
-            "Write all three parts into this folder; a user's header that is there stays as it is",
+            "Write all three parts into this folder; a header or an INF file that is there stays as it is",
         )
+}
+
+/// The flag `--force`.
+fn force_argument<'a>(alloc: Global) -> Arg<'a>
+    ensures rule { rule_of result ≡ spec.force_rule }
+    ensures own { result.global ≡ false }
+{
+    Arg::new(alloc, "force")
+        .long("force")
+        .action(ArgAction::SetTrue)
+        .help("Replace a source that is there, whoever wrote it")
 }
 
 // ---- commands
@@ -472,7 +483,7 @@ fn bare_emit<'a>(alloc: Global) -> Command<'a>
             "Prints the C source of the driver that a filter's text is, its user's header or its INF file",
         )
         .override_usage(
-            "fltstack emit [--part <PART>] <FILE> [CERT]\n       fltstack emit --into <FOLDER> <FILE> [CERT]",
+            "fltstack emit [--part <PART>] <FILE> [CERT]\n       fltstack emit --into <FOLDER> [--force] <FILE> [CERT]",
         )
         .after_help(
             "Analyses the text, or checks CERT. Prints the part, or writes NAME.c, NAME_user.h and NAME.inf (exit 0); or the\npoint and rule for which there is no certificate, or `not emitted`, the line and why (exit 1). Errors go to the\nstandard error with exit 2.\n\n`docs/EMIT.md` has the form of each line, and says which parts you must fill in.\n\nExample: fltstack emit examples/pending_reads.flt",
@@ -484,6 +495,7 @@ fn emit_command<'a>(alloc: Global) -> Result<Command<'a>, AllocError>
 {
     let command = with_argument(Ok(bare_emit(alloc)), part_argument(alloc));
     let command = with_argument(command, into_argument(alloc));
+    let command = with_argument(command, force_argument(alloc));
     let command = with_argument(command, text_argument(alloc));
     with_argument(command, certificate_argument(alloc))
 }

@@ -143,6 +143,8 @@ pub enum Request<'a> {
     EmitInto {
         /// It isn't empty.
         folder: &'a str,
+        /// Whether a source that is there is replaced, whoever wrote it.
+        is_forced: bool,
         file: &'a str,
         cert: Option<&'a str>,
     },

@@ -59,15 +59,19 @@ const NO_INPUT: &str =
 
 /// The error for an unknown part of a driver.
 const NO_PART: &str =
-    "error: `--part` takes `source`, `user` or `inf`\n\nUsage: fltstack emit [--part <PART>] <FILE> [CERT]\n       fltstack emit --into <FOLDER> <FILE> [CERT]\n\nFor more information, try '--help'.\n";
+    "error: `--part` takes `source`, `user` or `inf`\n\nUsage: fltstack emit [--part <PART>] <FILE> [CERT]\n       fltstack emit --into <FOLDER> [--force] <FILE> [CERT]\n\nFor more information, try '--help'.\n";
 
 /// The error for a part that is both printed and written.
 const BOTH_OUTPUTS: &str =
-    "error: `emit` takes `--part` or `--into`, not both\n\nUsage: fltstack emit [--part <PART>] <FILE> [CERT]\n       fltstack emit --into <FOLDER> <FILE> [CERT]\n\nFor more information, try '--help'.\n";
+    "error: `emit` takes `--part` or `--into`, not both\n\nUsage: fltstack emit [--part <PART>] <FILE> [CERT]\n       fltstack emit --into <FOLDER> [--force] <FILE> [CERT]\n\nFor more information, try '--help'.\n";
+
+/// The error for a source that would be replaced where none is written.
+const NO_FORCE: &str =
+    "error: `--force` takes `--into`\n\nUsage: fltstack emit [--part <PART>] <FILE> [CERT]\n       fltstack emit --into <FOLDER> [--force] <FILE> [CERT]\n\nFor more information, try '--help'.\n";
 
 /// The error for a folder without a name.
 const NO_FOLDER: &str =
-    "error: `--into` takes the name of a folder\n\nUsage: fltstack emit [--part <PART>] <FILE> [CERT]\n       fltstack emit --into <FOLDER> <FILE> [CERT]\n\nFor more information, try '--help'.\n";
+    "error: `--into` takes the name of a folder\n\nUsage: fltstack emit [--part <PART>] <FILE> [CERT]\n       fltstack emit --into <FOLDER> [--force] <FILE> [CERT]\n\nFor more information, try '--help'.\n";
 
 /// The error for malformed words if `clap` reports none for them.
 const NO_WORDS: &str = "error: these words can't be taken\n\nFor more information, try '--help'.\n";
@@ -588,9 +592,11 @@ fn emit_with<'a>(emit: &ArgMatches<'a>, part: Part) -> Request<'a>
 
 /// The request of the matches of `emit`, of a part or of one that there isn't.
 fn emit_part<'a>(alloc: Global, emit: &ArgMatches<'a>) -> Result<Request<'a>, AllocError>
-    ensures { IfOk result
-        (λ r. asked_of r ≡ option_map (spec.emit_with (rows_of (found_of emit.now))) (spec.part_of (rows_of (found_of emit.now)))) }
+    ensures { IfOk result (λ r. asked_of r ≡ spec.emit_part (rows_of (found_of emit.now))) }
 {
+    if is_set(emit, "force") {
+        return Ok(Request::Usage(String::from_str(alloc, NO_FORCE)?));
+    }
     let Some(part) = part_of(emit) else {
         return Ok(Request::Usage(String::from_str(alloc, NO_PART)?));
     };
@@ -601,9 +607,15 @@ fn emit_part<'a>(alloc: Global, emit: &ArgMatches<'a>) -> Result<Request<'a>, Al
 fn emit_into<'a>(emit: &ArgMatches<'a>, folder: &'a str) -> Request<'a>
     ensures { asked_of result ≡ Some (spec.emit_into (rows_of (found_of emit.now)) folder.entry.now) }
 {
+    let is_forced = is_set(emit, "force");
     let file = text_of(emit, "FILE");
     let cert = emit.get_str("CERT");
-    Request::EmitInto { folder, file, cert }
+    Request::EmitInto {
+        folder,
+        is_forced,
+        file,
+        cert,
+    }
 }
 
 /// The same, if the folder has a name.
@@ -621,6 +633,7 @@ fn emit_in<'a>(
 }
 
 /// The request of the matches of `emit`, of these options.
+#[tactic(auto, unfolding(crate::specs::Words::emit_by))]
 fn emit_by<'a>(
     alloc: Global,
     emit: &ArgMatches<'a>,

@@ -159,7 +159,7 @@ returns-in-Emit-clause-answers g c =
 
 pub returns-in_ok-before-in-EmitInto-clause-answers : goal.returns-in_ok-before-in-EmitInto-clause-answers
 returns-in_ok-before-in-EmitInto-clause-answers g c =
-    let request = EmitInto c.in-EmitInto.folder.now c.in-EmitInto.file.now (option_map (λ name. name.now) c.in-EmitInto.cert) in
+    let request = EmitInto c.in-EmitInto.folder.now c.in-EmitInto.is_forced c.in-EmitInto.file.now (option_map (λ name. name.now) c.in-EmitInto.cert) in
     let does =
     Does (c.emit_files_into-said.new.pictures ≡ c.args.pictures.now) (g.P.Pictures.tried c.args.pictures.now)
     (g.P.Pictures.tried c.emit_files_into-said.new.pictures) in
@@ -175,7 +175,7 @@ returns-in_ok-before-in-EmitInto-clause-answers g c =
 
 pub returns-in_ok-before-in-EmitInto-clause-quiet : goal.returns-in_ok-before-in-EmitInto-clause-quiet
 returns-in_ok-before-in-EmitInto-clause-quiet g c =
-    never_quiet _ _ _ _ (rw c.in-EmitInto.is at c.in_ok-text.ensures) _
+    never_quiet _ _ _ _ _ (rw c.in-EmitInto.is at c.in_ok-text.ensures) _
 
 pub returns-in-Serve-clause-answers : goal.returns-in-Serve-clause-answers
 returns-in-Serve-clause-answers g c =

@@ -9,4 +9,4 @@ returns c =
     let found = found_of c.args.emit.now in
     let cert : option_map (λ s. s.now) c.get_str-cert.result ≡ first_of (codes "CERT") (rows_of found) = c.get_str-cert.ensures
     ∙ first_value-rows found (codes "CERT") in
-    rw (c.text_of-file.ensures, cert) refl
+    rw (c.is_set-is_forced.ensures, c.text_of-file.ensures, cert) refl
