@@ -1,2 +1,4 @@
 pub mod IdleComments
+pub mod Keys
 mod Orderly
+pub mod Serving

@@ -2,6 +2,7 @@ pub mod Allowing
 pub mod Comments
 pub mod Contexts
 pub mod Details
+pub mod Indexed
 pub mod Late
 pub mod Locks
 pub mod Options

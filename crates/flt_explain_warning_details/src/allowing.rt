@@ -1,25 +1,20 @@
 //! The comments that allow a warning, and those that allow none.
 
-ghost use Rattle.std.specs.Prelude.{◌≡◌, ◌==◌, if◌then◌else◌, option_copied, IfOk};
-ghost use Rattle.std.specs.List.{find, list_any};
+ghost use Rattle.std.specs.Prelude.{◌≡◌, ◌||◌, ℕ, option_copied, IfOk, OnOk};
+ghost use Rattle.std.specs.BTreeSet.{contains};
+ghost use Rattle.std.specs.List.{find};
+ghost use Rattle.std.specs.Ordering.{nat_cmp};
 ghost use Rattle.flt_explain_warning_details.specs.Allowing as spec;
+ghost use Rattle.flt_explain_warning_details.specs.Indexed.{is_place, place_of, IsIndexed, AreNeeded};
 ghost use Rattle.flt_explain_warning_details.specs.Parsed.{of_parsed};
 
+use crate::indexed::IndexedComments;
 use crate::parsed::ParsedText;
 use crate::saying::line_of;
-use flt_explain_warnings::{Allowance, Kind, Warning};
+use flt_explain_warnings::{Allowance, Warning};
 use sqlite_items::Items;
 use std::alloc::{AllocError, Global};
-
-/// Whether a comment names a kind.
-fn names(named: Option<Kind>, kind: Kind) -> bool
-    ensures { result ≡ spec.names named kind }
-{
-    match named {
-        Some(named) => named.name() == kind.name(),
-        None => false,
-    }
-}
+use std::collections::BTreeSet;
 
 pub(crate) fn is_reason(reason: &[u8]) -> bool
     ensures { result ≡ spec.is_reason reason.now }
@@ -30,41 +25,44 @@ pub(crate) fn is_reason(reason: &[u8]) -> bool
     }
 }
 
-/// Whether a comment allows a warning.
-fn serves(text: &ParsedText<'_>, warning: &Warning, allowance: &Allowance) -> bool
-    ensures { result ≡ spec.serves (of_parsed text.now) warning.now allowance.now }
+/// The place, from 0, of the first comment that allows a warning.
+fn place_for(
+    text: &ParsedText<'_>,
+    comments: &IndexedComments<'_>,
+    warning: &Warning,
+) -> Option<usize>
+    requires { IsIndexed comments.now }
+    ensures { result ≡ place_of (spec.serves (of_parsed text.now) warning.now) comments.now.all.now }
 {
-    names(allowance.kind, warning.kind())
-        && is_reason(allowance.reason.as_slice())
-        && allowance.statement == line_of(text, warning)
+    comments.place(line_of(text, warning), warning.kind())
 }
 
 /// The first comment that allows a warning.
 fn first_for<'a>(
     text: &ParsedText<'_>,
-    allowances: &'a [Allowance],
+    comments: &IndexedComments<'a>,
     warning: &Warning,
 ) -> Option<&'a Allowance>
-    ensures { option_copied result ≡ find (spec.serves (of_parsed text.now) warning.now) allowances.now }
+    requires { IsIndexed comments.now }
+    ensures { option_copied result ≡ find (spec.serves (of_parsed text.now) warning.now) comments.now.all.now }
 {
-    for allowance in allowances {
-        if serves(text, warning, allowance) {
-            return Some(allowance);
-        }
+    match place_for(text, comments, warning) {
+        Some(place) => comments.comment(place),
+        None => None,
     }
-    None
 }
 
 /// The reason of the first comment that allows a warning.
 pub(crate) fn reason_for(
     alloc: Global,
     text: &ParsedText<'_>,
-    allowances: &[Allowance],
+    comments: &IndexedComments<'_>,
     warning: &Warning,
 ) -> Result<Option<Items<u8>>, AllocError>
-    ensures { IfOk result (λ reason. reason ≡ spec.reason_for (of_parsed text.now) allowances.now warning.now) }
+    requires { IsIndexed comments.now }
+    ensures { IfOk result (λ reason. reason ≡ spec.reason_for (of_parsed text.now) comments.now.all.now warning.now) }
 {
-    match first_for(text, allowances, warning) {
+    match first_for(text, comments, warning) {
         Some(allowance) => {
             let reason = Items::from_slice(alloc, allowance.reason.as_slice())?;
             Ok(Some(reason))
@@ -73,37 +71,32 @@ pub(crate) fn reason_for(
     }
 }
 
-/// Whether one of some comments allows a warning.
-fn is_served(text: &ParsedText<'_>, allowances: &[Allowance], warning: &Warning) -> bool
-    ensures { result ≡ spec.is_served (of_parsed text.now) allowances.now warning.now }
+/// Adds a place, if there is one.
+fn add_place(places: &mut BTreeSet<usize>, place: Option<usize>) -> Result<(), AllocError>
+    ensures { OnOk result ((n : ℕ) → contains nat_cmp places.new n ≡ (contains nat_cmp places.old n || is_place n place)) }
 {
-    allowances
-        .iter()
-        .any(|allowance| serves(text, warning, allowance))
+    match place {
+        Some(place) => {
+            let _ = places.insert(place)?;
+            Ok(())
+        }
+        None => Ok(()),
+    }
 }
 
-/// Whether a comment allows a warning and none of those before it does.
-fn is_first(
+/// The places, from 0, of the comments that allow one of some warnings that none of those before them allows.
+pub(crate) fn needed_places(
+    alloc: Global,
     text: &ParsedText<'_>,
-    before: &[Allowance],
-    allowance: &Allowance,
-    warning: &Warning,
-) -> bool
-    ensures { result ≡ spec.is_first (of_parsed text.now) before.now allowance.now warning.now }
-{
-    serves(text, warning, allowance) && !is_served(text, before, warning)
-}
-
-/// Whether a comment allows one of some warnings that none of those before it allows.
-pub(crate) fn is_needed(
-    text: &ParsedText<'_>,
+    comments: &IndexedComments<'_>,
     warnings: &[Warning],
-    before: &[Allowance],
-    allowance: &Allowance,
-) -> bool
-    ensures { result ≡ spec.is_needed (of_parsed text.now) warnings.now before.now allowance.now }
+) -> Result<BTreeSet<usize>, AllocError>
+    requires { IsIndexed comments.now }
+    ensures { IfOk result (λ places. AreNeeded (of_parsed text.now) comments.now.all.now warnings.now places) }
 {
-    warnings
-        .iter()
-        .any(|warning| is_first(text, before, allowance, warning))
+    let mut places = BTreeSet::new(alloc);
+    for warning in warnings {
+        add_place(&mut places, place_for(text, comments, warning))?;
+    }
+    Ok(places)
 }

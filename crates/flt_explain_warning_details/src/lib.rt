@@ -6,6 +6,7 @@ mod allowing;
 mod comments;
 mod contexts;
 mod detail;
+mod indexed;
 mod late;
 mod laws;
 mod locks;

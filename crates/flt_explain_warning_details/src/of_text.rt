@@ -1,12 +1,16 @@
 //! The details of all warnings of a text.
 
 ghost use Rattle.std.specs.Prelude.{◌≡◌, ◌<◌, ◌++◌, flat_map, length, slice_get, IfOk, OnOk, Some};
+ghost use Rattle.std.specs.BTreeSet.{contains};
+ghost use Rattle.std.specs.Ordering.{nat_cmp};
 ghost use Rattle.flt_explain_warning_details.specs.Details as spec;
+ghost use Rattle.flt_explain_warning_details.specs.Indexed.{idle_unless_needed, IsIndexed};
 ghost use Rattle.flt_explain_warning_details.specs.Parsed.{of_parsed};
 
-use crate::allowing::{is_needed, reason_for};
+use crate::allowing::{needed_places, reason_for};
 use crate::comments::idle_detail;
 use crate::detail::WarningDetail;
+use crate::indexed::IndexedComments;
 use crate::parsed::ParsedText;
 use crate::saying::{circle_of, head_of, help_of, marks_of, note_of, related_of, title_of};
 use flt_analyse::{AnalyseFault, analyse_plainly};
@@ -15,10 +19,11 @@ use flt_explain::Finding;
 use flt_explain_texts::{Scene, Source, tokens_of};
 use flt_explain_warnings::{Allowance, AllowedKinds, Kind, Warning, allowances, warnings};
 use flt_graph::Graph;
-use flt_places::Lines;
+use flt_places::{Files, Lines};
 use flt_syntax::Tree;
 use sqlite_items::Items;
 use std::alloc::{AllocError, Global};
+use std::collections::BTreeSet;
 
 // ---- the certificate
 
@@ -39,10 +44,11 @@ fn certificate(alloc: Global, graph: &Graph) -> Result<Option<FullCert>, AllocEr
 fn detail_of(
     alloc: Global,
     text: &ParsedText<'_>,
-    comments: &[Allowance],
+    comments: &IndexedComments<'_>,
     warning: &Warning,
 ) -> Result<WarningDetail, AllocError>
-    ensures { IfOk result (λ d. d ≡ spec.detail_of (of_parsed text.now) comments.now warning.now) }
+    requires { IsIndexed comments.now }
+    ensures { IfOk result (λ d. d ≡ spec.detail_of (of_parsed text.now) comments.now.all.now warning.now) }
 {
     let marks = marks_of(alloc, text, warning)?;
     let head = Items::from_slice(alloc, head_of(text, warning))?;
@@ -72,10 +78,11 @@ fn add_detail(
     all: &mut Items<WarningDetail>,
     text: &ParsedText<'_>,
     allowed: AllowedKinds,
-    comments: &[Allowance],
+    comments: &IndexedComments<'_>,
     warning: &Warning,
 ) -> Result<(), AllocError>
-    ensures { OnOk result (all.new ≡ all.old ++ spec.detail_by (of_parsed text.now) allowed comments.now warning.now) }
+    requires { IsIndexed comments.now }
+    ensures { OnOk result (all.new ≡ all.old ++ spec.detail_by (of_parsed text.now) allowed comments.now.all.now warning.now) }
 {
     if !allowed.allows(warning.kind()) {
         all.push(detail_of(alloc, text, comments, warning)?)?;
@@ -88,10 +95,11 @@ fn warned(
     alloc: Global,
     text: &ParsedText<'_>,
     allowed: AllowedKinds,
-    comments: &[Allowance],
+    comments: &IndexedComments<'_>,
     warnings: &[Warning],
 ) -> Result<Items<WarningDetail>, AllocError>
-    ensures { IfOk result (λ all. all ≡ flat_map (spec.detail_by (of_parsed text.now) allowed comments.now) warnings.now) }
+    requires { IsIndexed comments.now }
+    ensures { IfOk result (λ all. all ≡ flat_map (spec.detail_by (of_parsed text.now) allowed comments.now.all.now) warnings.now) }
 {
     let mut all = Items::new(alloc);
     for warning in warnings {
@@ -108,52 +116,60 @@ fn comment_at(comments: &[Allowance], number: usize) -> &Allowance
     &comments[number]
 }
 
-/// Adds the details of a comment that comes after some others, if it allows nothing.
+/// Adds the details of a comment, unless it is needed.
 fn add_unneeded(
     alloc: Global,
     all: &mut Items<WarningDetail>,
-    text: &ParsedText<'_>,
-    warnings: &[Warning],
-    before: &[Allowance],
+    files: Files<'_>,
+    is_needed: bool,
     comment: &Allowance,
 ) -> Result<(), AllocError>
-    ensures { OnOk result (all.new ≡ all.old ++ spec.idle_by (of_parsed text.now) warnings.now before.now (Some comment.now)) }
+    ensures { OnOk result (all.new ≡ all.old ++ idle_unless_needed files.entry is_needed (Some comment.now)) }
 {
-    if !is_needed(text, warnings, before, comment) {
-        all.push(idle_detail(alloc, text.scene.files, comment)?)?;
+    if !is_needed {
+        all.push(idle_detail(alloc, files, comment)?)?;
     }
     Ok(())
 }
 
-/// Adds the details of the comment of a number, if it allows nothing.
+/// Adds the details of the comment of a number, unless its place is one of those that are needed.
 fn add_idle(
     alloc: Global,
     all: &mut Items<WarningDetail>,
-    text: &ParsedText<'_>,
+    files: Files<'_>,
     comments: &[Allowance],
-    warnings: &[Warning],
+    needed: &BTreeSet<usize>,
     number: usize,
 ) -> Result<(), AllocError>
     requires within { number < length comments.now }
-    ensures { OnOk result (all.new ≡ all.old ++ spec.idle_at (of_parsed text.now) comments.now warnings.now number) }
+    ensures { OnOk result (all.new ≡ all.old ++ idle_unless_needed files.entry (contains nat_cmp needed.now number) (slice_get comments.now number)) }
 {
     let comment = comment_at(comments, number);
-    add_unneeded(alloc, all, text, warnings, &comments[..number], comment)
+    add_unneeded(alloc, all, files, needed.contains(&number), comment)
 }
 
 /// The details of the comments that allow nothing.
-#[tactic(auto, using(crate::proofs::IdleComments::one_comment, crate::proofs::IdleComments::no_comment))]
+#[tactic(auto, using(crate::proofs::IdleComments::no_comment))]
 fn idle(
     alloc: Global,
     text: &ParsedText<'_>,
-    comments: &[Allowance],
+    comments: &IndexedComments<'_>,
     warnings: &[Warning],
 ) -> Result<Items<WarningDetail>, AllocError>
-    ensures { IfOk result (λ all. all ≡ spec.idle (of_parsed text.now) comments.now warnings.now) }
+    requires { IsIndexed comments.now }
+    ensures { IfOk result (λ all. all ≡ spec.idle (of_parsed text.now) comments.now.all.now warnings.now) }
 {
+    let needed = needed_places(alloc, text, comments, warnings)?;
     let mut all = Items::new(alloc);
-    for number in 0..comments.len() {
-        add_idle(alloc, &mut all, text, comments, warnings, number)?;
+    for number in 0..comments.all.len() {
+        add_idle(
+            alloc,
+            &mut all,
+            text.scene.files,
+            comments.all,
+            &needed,
+            number,
+        )?;
     }
     Ok(all)
 }
@@ -163,10 +179,11 @@ fn idle_unless(
     alloc: Global,
     text: &ParsedText<'_>,
     allowed: AllowedKinds,
-    comments: &[Allowance],
+    comments: &IndexedComments<'_>,
     warnings: &[Warning],
 ) -> Result<Items<WarningDetail>, AllocError>
-    ensures { IfOk result (λ all. all ≡ spec.idle_unless (of_parsed text.now) allowed comments.now warnings.now) }
+    requires { IsIndexed comments.now }
+    ensures { IfOk result (λ all. all ≡ spec.idle_unless (of_parsed text.now) allowed comments.now.all.now warnings.now) }
 {
     if allowed.allows(Kind::W00) {
         Ok(Items::new(alloc))
@@ -186,8 +203,9 @@ fn details(
 ) -> Result<Items<WarningDetail>, AllocError>
     ensures { IfOk result (λ all. all ≡ spec.details (of_parsed text.now) allowed comments.now warnings.now) }
 {
-    let mut all = warned(alloc, text, allowed, comments, warnings)?;
-    let others = idle_unless(alloc, text, allowed, comments, warnings)?;
+    let comments = IndexedComments::new(alloc, comments)?;
+    let mut all = warned(alloc, text, allowed, &comments, warnings)?;
+    let others = idle_unless(alloc, text, allowed, &comments, warnings)?;
     all.append(others)?;
     Ok(all)
 }
