@@ -1,10 +1,12 @@
 //! The findings in texts, line by line.
 
 ghost use Rattle.std.specs.Prelude.{◌≡◌, ◌++◌, [], IfOk, List, ℕ, max};
-ghost use Rattle.flt_explain_forms.specs.Fault.{IsFaultLine};
+ghost use Rattle.flt_explain_forms.specs.Fault.{IsFaultLine, fault, help_of as help_with};
 ghost use Rattle.flt_explain_forms.specs.Finding as of_finding;
 ghost use Rattle.flt_explain_forms.specs.Lines as spec;
+ghost use Rattle.flt_explain_forms.specs.Members.{line_of};
 ghost use Rattle.flt_explain_forms.specs.RunMember.{members_in, no_member, own_member};
+ghost use Rattle.flt_explain_hints.specs.Telling.{title_of};
 ghost use Rattle.flt_explain_texts.specs.Reports.{IsJudged};
 ghost use Rattle.flt_syntax.specs.TextFails.{Fails};
 
@@ -18,7 +20,7 @@ use crate::warned::{status_of, warned_of};
 use crate::warning::put_warnings;
 use flt_explain::Finding;
 use flt_explain_details::details;
-use flt_explain_hints::{describe, tell};
+use flt_explain_hints::{Trouble, describe, tell};
 use flt_explain_texts::{Printout, Source, TextJudgement, judge};
 use flt_explain_warning_details::{WarningDetail, WarningOptions};
 use flt_graph::Graph;
@@ -33,6 +35,22 @@ pub enum Style {
     Object,
     /// A sentence after the file's name, its line and its column, as compilers print it.
     Sentence,
+}
+
+/// Adds the line of the first fault of a text to the output.
+fn put_trouble(
+    alloc: Global,
+    out: Vec<u8>,
+    files: &Files<'_>,
+    trouble: &Trouble<'_>,
+) -> Result<Vec<u8>, AllocError>
+    ensures { IfOk result (λ v. v.items ≡ out.items
+        ++ line_of (fault files.now trouble.now (title_of trouble.now) (help_with files.now trouble.now))) }
+{
+    let line = open_line(alloc, files, trouble)?;
+    let told = tell(alloc, trouble, line.as_slice())?;
+    let help = help_of(alloc, &told)?;
+    put_fault_line(alloc, out, files, trouble, &told, &help)
 }
 
 /// Adds the line of a text that doesn't parse to the output.
@@ -50,10 +68,7 @@ fn unread(
     let Some(trouble) = describe(alloc, source.text)? else {
         return Ok(out);
     };
-    let line = open_line(alloc, &source.files, &trouble)?;
-    let told = tell(alloc, &trouble, line.as_slice())?;
-    let help = help_of(alloc, &told)?;
-    let written = put_fault_line(alloc, out, &source.files, &trouble, &told, &help)?;
+    let written = put_trouble(alloc, out, &source.files, &trouble)?;
     Ok(written)
 }
 
@@ -139,6 +154,31 @@ fn put_warned(
     }
 }
 
+/// Adds the lines of a judged text of a number to the output; returns the text's status, too.
+fn put_judged_source(
+    alloc: Global,
+    out: Vec<u8>,
+    style: Style,
+    options: WarningOptions,
+    runs: TextRuns<'_, '_>,
+    number: usize,
+    source: Source<'_>,
+    judged: &TextJudgement,
+) -> Result<Printout, AllocError>
+    requires { IsJudged source.text.now judged.now }
+    ensures { IfOk result (λ e. (printed : List ℕ) × spec.IsPart style options (members_in runs.entry number) source.entry printed e.status
+        × (e.output.items ≡ out.items ++ printed)) }
+{
+    let warned = warned_of(alloc, options.allowed, source, judged)?;
+    let first = put_judged(alloc, out, style, runs, number, source, judged)?;
+    let shown = put_warned(alloc, first, style, &source.files, warned.as_slice())?;
+    let output = put_clean_lines(shown, style, source.name(), judged, warned.as_slice())?;
+    Ok(Printout {
+        output,
+        status: status_of(options.is_strict, judged, warned.as_slice()),
+    })
+}
+
 /// Adds the lines of the text of a number to the output; returns the text's status, too.
 fn put_source(
     alloc: Global,
@@ -153,14 +193,7 @@ fn put_source(
         × (e.output.items ≡ out.items ++ printed)) }
 {
     let judged = judge(alloc, source.text)?;
-    let warned = warned_of(alloc, options.allowed, source, &judged)?;
-    let first = put_judged(alloc, out, style, runs, number, source, &judged)?;
-    let shown = put_warned(alloc, first, style, &source.files, warned.as_slice())?;
-    let output = put_clean_lines(shown, style, source.name(), &judged, warned.as_slice())?;
-    Ok(Printout {
-        output,
-        status: status_of(options.is_strict, &judged, warned.as_slice()),
-    })
+    put_judged_source(alloc, out, style, options, runs, number, source, &judged)
 }
 
 pub(crate) fn greater(a: u8, b: u8) -> u8

@@ -2,10 +2,12 @@
 
 ghost use Rattle.std.specs.Prelude.{◌++◌, IfOk, List, codes};
 ghost use Rattle.flt_explain_forms.specs.DriftResults.{drift_results};
-ghost use Rattle.flt_explain_forms.specs.Members.{Added, array_member};
-ghost use Rattle.flt_explain_forms.specs.Results.{item};
+ghost use Rattle.flt_explain_forms.specs.Fault.{help_of as help_with};
+ghost use Rattle.flt_explain_forms.specs.Members.{Added, Adds, array_member};
+ghost use Rattle.flt_explain_forms.specs.Results.{fault_result, item};
 ghost use Rattle.flt_explain_forms.specs.RunFlow.{flows_in};
 ghost use Rattle.flt_explain_forms.specs.Sarif as spec;
+ghost use Rattle.flt_explain_hints.specs.Telling.{title_of};
 ghost use Rattle.flt_explain_texts.specs.Reports.{IsJudged};
 ghost use Rattle.flt_syntax.specs.TextFails.{Fails};
 ghost use Rattle.json.specs.Token.{Token};
@@ -26,16 +28,42 @@ use crate::warned::{status_of, warned_of};
 use crate::warning_results::put_warning_results;
 use flt_explain::Finding;
 use flt_explain_details::details;
-use flt_explain_hints::{describe, tell};
+use flt_explain_hints::{Trouble, describe, tell};
 use flt_explain_texts::{Printout, Source, TextJudgement, judge};
 use flt_explain_warning_details::WarningOptions;
 use flt_files::UnreadFile;
 use flt_graph::Graph;
+use flt_places::Files;
 use flt_syntax::{SyntaxFault, Tree, fails_exactly_where_nothing_is_spelled};
 use json::Writer;
 use std::alloc::{AllocError, Global};
 
 // ---- the results
+
+/// Writes the result of the first fault of a text.
+fn put_trouble(
+    alloc: Global,
+    writer: &mut Writer,
+    file: &File<'_>,
+    files: &Files<'_>,
+    trouble: &Trouble<'_>,
+) -> Result<(), AllocError>
+    ensures { Adds result writer.old writer.new (fault_result file.now trouble.now.spot.fault trouble.now.spot.bytes.now
+        (title_of trouble.now) (help_with files.now trouble.now)) }
+{
+    let line = open_line(alloc, files, trouble)?;
+    let told = tell(alloc, trouble, line.as_slice())?;
+    let help = help_of(alloc, &told)?;
+    put_fault_result(
+        alloc,
+        writer,
+        file,
+        trouble.spot.fault,
+        trouble.spot.bytes,
+        &told.title,
+        &help,
+    )
+}
 
 /// Writes the result of a text that doesn't parse.
 fn put_unread(
@@ -52,19 +80,7 @@ fn put_unread(
     let Some(trouble) = describe(alloc, source.text)? else {
         return Ok(());
     };
-    let line = open_line(alloc, &source.files, &trouble)?;
-    let told = tell(alloc, &trouble, line.as_slice())?;
-    let help = help_of(alloc, &told)?;
-    let spot = trouble.spot;
-    put_fault_result(
-        alloc,
-        writer,
-        file,
-        spot.fault,
-        spot.bytes,
-        &told.title,
-        &help,
-    )?;
+    put_trouble(alloc, writer, file, &source.files, &trouble)?;
     Ok(())
 }
 
@@ -118,6 +134,28 @@ fn put_judged(
     }
 }
 
+/// Writes the results of a judged text of a number, in a document of files of these names; returns the text's status.
+fn put_judged_source(
+    alloc: Global,
+    writer: &mut Writer,
+    options: WarningOptions,
+    names: &[&str],
+    runs: FileRuns<'_, '_>,
+    number: usize,
+    source: Source<'_>,
+    judged: &TextJudgement,
+) -> Result<u8, AllocError>
+    requires { IsJudged source.text.now judged.now }
+    ensures { IfOk result (λ status. (ts : List Token) × spec.IsPart options names.now (flows_in runs.entry number) source.entry ts status
+        × Added writer.old writer.new ts) }
+{
+    let file = file_of(alloc, names, source)?;
+    let warned = warned_of(alloc, options.allowed, source, judged)?;
+    put_judged(alloc, writer, &file, runs, number, source, judged)?;
+    put_warning_results(alloc, writer, &file, warned.as_slice())?;
+    Ok(status_of(options.is_strict, judged, warned.as_slice()))
+}
+
 /// Writes the results of the text of a number, in a document of files of these names; returns the text's status.
 fn put_source(
     alloc: Global,
@@ -131,12 +169,8 @@ fn put_source(
     ensures { IfOk result (λ status. (ts : List Token) × spec.IsPart options names.now (flows_in runs.entry number) source.entry ts status
         × Added writer.old writer.new ts) }
 {
-    let file = file_of(alloc, names, source)?;
     let judged = judge(alloc, source.text)?;
-    let warned = warned_of(alloc, options.allowed, source, &judged)?;
-    put_judged(alloc, writer, &file, runs, number, source, &judged)?;
-    put_warning_results(alloc, writer, &file, warned.as_slice())?;
-    Ok(status_of(options.is_strict, &judged, warned.as_slice()))
+    put_judged_source(alloc, writer, options, names, runs, number, source, &judged)
 }
 
 /// Writes the results of several texts; returns the greatest status.

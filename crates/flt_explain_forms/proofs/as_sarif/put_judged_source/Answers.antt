@@ -4,7 +4,7 @@ use Rattle.flt_explain_forms.specs.Sarif.{IsPart}
 use Rattle.flt_explain_forms.specs.Warned.{status_of}
 use Rattle.flt_explain_forms.specs.WarningResults.{results_of}
 use Rattle.flt_explain_forms.proofs.Adding.{both}
-use Rattle.flt_explain_forms.proofs.as_sarif.put_source.Goals as goal
+use Rattle.flt_explain_forms.proofs.as_sarif.put_judged_source.Goals as goal
 
 pub returns : goal.returns
 returns c =
@@ -14,11 +14,11 @@ returns c =
     let is : IsPart c.args.options c.args.names.now runs c.args.source (first.0 ++ shown) c.status_of.result = record {
       file = c.in_ok-file.file;
       of = c.in_ok-file.ensures;
-      judged = c.in_ok-judged.judged;
-      is = c.in_ok-judged.ensures;
+      judged = c.args.judged.now;
+      is = c.requires;
       warned = c.in_ok-warned.warned;
       are = c.in_ok-warned.ensures;
-      own = c.status_of.ensures ∙ ap (status_of c.args.options.is_strict c.in_ok-judged.judged) c.as_slice-2.ensures;
+      own = c.status_of.ensures ∙ ap (status_of c.args.options.is_strict c.args.judged.now) c.as_slice-2.ensures;
       first = first.0;
       results = first.1;
       all = refl;
