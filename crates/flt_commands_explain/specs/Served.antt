@@ -21,7 +21,7 @@ use Rattle.flt_files.specs.Inputs.{Text}
 use Rattle.flt_commands_explain.specs.Remarks.{unread_lines}
 use Rattle.flt_commands_explain.specs.declared.serving.Explaining.{Explaining}
 use Rattle.flt_server.specs.declared.server.Server.{Server}
-use Rattle.flt_server_session.specs.Answers.{IsAnswered}
+use Rattle.flt_server_session.specs.Answers.{IsHandled}
 use Rattle.flt_server_session.specs.declared.phase.Phase.TheVariants.{Fresh}
 
 -- how `explain` prints without options
@@ -82,7 +82,7 @@ IsNew server = (server.session.phase ≡ Fresh) × (server.session.documents ≡
 
 -- a server in the first state may answer this body so, and is then in the second
 abbrev pub MayAnswer : Server Explaining → Text → Reply → Server Explaining → Type 0
-MayAnswer old body reply new = IsAnswered IsReport old.session body reply new.session
+MayAnswer old body reply new = IsHandled IsReport old.session body reply new.session
 
 -- a new server answered the frames of a stream one after the other, and ended with this status. The first two are the bytes of the stream
 -- before and after it, the others what a writer had taken before and after it

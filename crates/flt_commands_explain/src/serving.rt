@@ -149,7 +149,8 @@ impl Reporter for Explaining {
 
 /// Serves a client that has sent nothing yet, and returns the exit status: 0 after the client's `shutdown` and `exit`,
 /// 1 after `exit` alone, at the end of `input`, in a frame that this end cuts short, and at bytes that aren't a frame's header.
-/// Nothing is read after the frame of `exit`, and the messages of an answer go out before the next frame is read.
+/// Nothing is read after the frame of `exit`, and the messages of an answer go out before the next frame is read. A body of more than
+/// 16,777,216 bytes is read past and answered by an error and a message to the user.
 ///
 /// # Errors
 ///

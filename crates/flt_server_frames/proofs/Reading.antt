@@ -1,12 +1,12 @@
 -- A header is read byte by byte, and a body after it.
-use Rattle.std.proofs.Common.{◌≡◌, ◌≢◌, ◌<◌, ◌≤◌, ◌+◌, ◌-◌, ◌++◌, ◌∷◌, ◌∙◌, [], ℕ, suc, List, Option, None, ap, sym, refl, length, arith}
+use Rattle.std.proofs.Common.{◌≡◌, ◌≢◌, ◌<◌, ◌≤◌, ◌+◌, ◌-◌, ◌++◌, ◌∷◌, ◌∙◌, [], ℕ, suc, List, Option, None, ap, sym, refl, length, take, arith}
 use Rattle.std.proofs.KnownBytes.{Consumes-nil, Consumes-trans}
 use Rattle.std.proofs.Math.Seq.{take-append_seam, drop-append_seam}
 use Rattle.std.proofs.lemmas.Bool.{lt-ltb, le-ltb}
-use Rattle.std.proofs.lemmas.List.{append_assoc, length-append}
+use Rattle.std.proofs.lemmas.List.{append_assoc, length-append, length-take-le}
 use Rattle.std.specs.Io.KnownBytes.{Consumes, IsAtEnd}
 use Rattle.flt_server_frames.specs.Line.{Text}
-use Rattle.flt_server_frames.specs.Frames.{Front, Gives, GivesAll, IsHead, at_end, body_of, cut, front_of, in_header, malformed, whole}
+use Rattle.flt_server_frames.specs.Frames.{Front, Gives, GivesAll, IsHead, IsTooLong, at_end, body_of, cut, front_of, in_header, malformed, whole}
 use Rattle.flt_server_frames.specs.Header.{Ends}
 use Rattle.flt_server_frames.specs.declared.header.Head.{Head}
 use Rattle.flt_server_frames.specs.declared.header.Head.TheVariants as head
@@ -117,6 +117,23 @@ body_read old between new n body before taken count = (
       ap front_of (append_assoc before.0 body more) ∙ before.2 (body ++ more) ∙ ap (λ m. body_of m (body ++ more)) (sym count)
       ∙ body_with body more,
 )
+
+-- some bytes more were read past
+pub passed_more : (old between new : Option Text) (n k : ℕ) (buffer : Text) →
+    ((bytes : Text) × Consumes old between bytes × (length bytes ≡ n)) → Consumes between new (take k buffer) → k ≤ length buffer →
+    (bytes : Text) × Consumes old new bytes × (length bytes ≡ n + k)
+passed_more old between new n k buffer before taken few = (
+  before.0 ++ take k buffer,
+  Consumes-trans _ _ _ _ _ before.1 taken,
+  omega (arith, length-append before.0 (take k buffer), before.2, length-take-le k buffer few),
+)
+
+-- a body of so many bytes was read past
+pub body_passed : (old between new : Option Text) (n : ℕ) → Gives old between (body_of n) →
+    ((bytes : Text) × Consumes between new bytes × (length bytes ≡ n)) → 16777216 < n →
+    (body : Text) × IsTooLong body × Gives old new (whole body)
+body_passed old between new n before passed long =
+    (passed.0, omega (arith, passed.2, long), body_read old between new n passed.0 before passed.1 passed.2)
 
 -- a body in which the stream ends
 pub body_cut : (old between new : Option Text) (n : ℕ) (part : Text) → Gives old between (body_of n) → Consumes between new part →

@@ -144,14 +144,15 @@ module _ {H : Type 0} (answers : H → Text → Reply → H → Type 0) where
   -- no frame comes
   pub none_comes : (first last : H) (had between left old new : Option Text) (count : ℕ) (found : Frame) →
       HasServed answers first last had between old new count → IsFrame between left found →
-      ((body : _) → found ≢ frame.Body body) → IsServed answers first last had left old new 1
-  none_comes first last had between left old new count (frame.Body body) before is not_body = absurd (not_body body refl)
-  none_comes first last had between left old new count frame.End before is not_body =
+      ((body : _) → found ≢ frame.Body body) → found ≢ frame.TooLong → IsServed answers first last had left old new 1
+  none_comes first last had between left old new count (frame.Body body) before is not_body not_long = absurd (not_body body refl)
+  none_comes first last had between left old new count frame.TooLong before is not_body not_long = absurd (not_long refl)
+  none_comes first last had between left old new count frame.End before is not_body not_long =
       served_over first last had between left old new count is.0 ends before is.1 is.3 is.2
-  none_comes first last had between left old new count frame.Malformed before is not_body =
+  none_comes first last had between left old new count frame.Malformed before is not_body not_long =
       served_over first last had between left old new count (is.0 ++ []) ends_malformed before
       (subst (Consumes between left) (sym (append-nil is.0)) is.1) (is.2 []) tt
-  none_comes first last had between left old new count frame.Cut before is not_body =
+  none_comes first last had between left old new count frame.Cut before is not_body not_long =
       served_over first last had between left old new count is.0 ends_cut before is.1 is.3 is.2
 
   -- there were as many frames as are counted

@@ -88,14 +88,14 @@ found_rest None = []
 found_rest (Some found) = found.1
 
 -- one digit more
-number_more : (ds : Text) (m k c : ℕ) → number_after m ds ≡ Some (k, []) → is_ascii_digit c ≡ true → 10 * k + (c - 48) ≤ 16777216 →
+number_more : (ds : Text) (m k c : ℕ) → number_after m ds ≡ Some (k, []) → is_ascii_digit c ≡ true → 10 * k + (c - 48) ≤ 1000000000000000000 →
     number_after m (ds ++ c ∷ []) ≡ Some (10 * k + (c - 48), [])
 number_more [] m k c found digit small =
     let same : m ≡ k = ap found_number found in
-    let low : 10 * m + (c - 48) ≤ 16777216 = omega (arith, same, small) in
-    rw (digit, le-ltb 16777216 (10 * m + (c - 48)) low) (ap (λ n. Some (10 * n + (c - 48), [])) same)
+    let low : 10 * m + (c - 48) ≤ 1000000000000000000 = omega (arith, same, small) in
+    rw (digit, le-ltb 1000000000000000000 (10 * m + (c - 48)) low) (ap (λ n. Some (10 * n + (c - 48), [])) same)
 number_more (b ∷ bs) m k c found digit small =
-    by (is_ascii_digit b) (nat_lt 16777216 (10 * m + (b - 48))) found (λ n h. number_more bs n k c h digit small) where
+    by (is_ascii_digit b) (nat_lt 1000000000000000000 (10 * m + (b - 48))) found (λ n h. number_more bs n k c h digit small) where
       by : (is large : Bool) →
           (if is then (if large then None else number_after (10 * m + (b - 48)) bs) else Some (m, b ∷ bs)) ≡ Some (k, []) →
           ((n : ℕ) → number_after n bs ≡ Some (k, []) → number_after n (bs ++ c ∷ []) ≡ Some (10 * k + (c - 48), [])) →
@@ -107,7 +107,7 @@ number_more (b ∷ bs) m k c found digit small =
 
 -- a text is the digits of a number
 record IsNumber (n : ℕ) (ds : Text) : Type 0 where
-  number : n ≤ 16777216 → number_after 0 ds ≡ Some (n, [])
+  number : n ≤ 1000000000000000000 → number_after 0 ds ≡ Some (n, [])
   line : no_feed ds ≡ true
   blanks : (more : Text) → after_blanks (ds ++ more) ≡ ds ++ more
   some : 0 < length ds
@@ -115,9 +115,9 @@ record IsNumber (n : ℕ) (ds : Text) : Type 0 where
 one_digit : (n : ℕ) → n < 10 → IsNumber n ((48 + n) ∷ [])
 one_digit n low =
     let value : 10 * 0 + ((48 + n) - 48) ≡ n = omega arith in
-    let small : 10 * 0 + ((48 + n) - 48) ≤ 16777216 = omega arith in
+    let small : 10 * 0 + ((48 + n) - 48) ≤ 1000000000000000000 = omega arith in
     record {
-      number = λ bounded. rw (is_digit n low, le-ltb 16777216 _ small) (ap (λ m. Some (m, [])) value);
+      number = λ bounded. rw (is_digit n low, le-ltb 1000000000000000000 _ small) (ap (λ m. Some (m, [])) value);
       line = rw (unequal (48 + n) 10 (omega arith)) refl;
       blanks = λ more. rw (unequal (48 + n) 32 (omega arith), unequal (48 + n) 9 (omega arith)) refl;
       some = omega arith;
@@ -145,13 +145,13 @@ without_return-end line =
     let last : length (line ++ 13 ∷ []) - 1 ≡ length line = omega (arith, length-append line (13 ∷ [])) in
     rw (last, get_or-append_seam line 13 [] 0, take-append_seam line (13 ∷ [])) refl
 
-length_read : (n : ℕ) → n ≤ 16777216 → length_in (32 ∷ decimal n) ≡ Some n
+length_read : (n : ℕ) → n ≤ 1000000000000000000 → length_in (32 ∷ decimal n) ≡ Some n
 length_read n small =
     let is = decimal_number n (omega arith) in
     let plain : after_blanks (decimal n) ≡ decimal n = subst (λ ds. after_blanks ds ≡ ds) (append-nil (decimal n)) (is.blanks []) in
     rw (plain, is.number small, lt-ltb 0 (length (decimal n)) is.some) refl
 
-line_said : (n : ℕ) → n ≤ 16777216 → said_by (codes "Content-Length: " ++ (decimal n ++ 13 ∷ [])) ≡ said.Length n
+line_said : (n : ℕ) → n ≤ 1000000000000000000 → said_by (codes "Content-Length: " ++ (decimal n ++ 13 ∷ [])) ≡ said.Length n
 line_said n small =
     let name = codes "Content-Length: " in
     let plain : without_return (name ++ (decimal n ++ 13 ∷ [])) ≡ name ++ decimal n =
@@ -179,12 +179,12 @@ header_end : (line rest : Text) (n k : ℕ) → said_by (line ++ 13 ∷ []) ≡ 
 header_end line rest n k says = rw says refl
 
 -- a frame that is written is at the front
-pub frame_read : (body more : Text) → length body ≤ 16777216 → front_of (framed body ++ more) ≡ whole body more
+pub frame_read : (body more : Text) → length body ≤ 1000000000000000000 → front_of (framed body ++ more) ≡ whole body more
 frame_read body more small =
     let n = length body in
     let name = codes "Content-Length: " in
     let is = decimal_number n (omega (arith, small)) in
-    let digits : length (decimal n) ≤ 8 = length-decimal-le 8 n (omega arith) (omega (arith, small)) (omega (arith, small)) in
+    let digits : length (decimal n) ≤ 19 = length-decimal-le 19 n (omega arith) (omega (arith, small)) (omega (arith, small)) in
     let k = 8172 - length (decimal n) in
     let rest = body ++ more in
     let parts : framed body ++ more ≡ name ++ (decimal n ++ (13 ∷ 10 ∷ 13 ∷ 10 ∷ rest)) =
@@ -200,7 +200,7 @@ frame_read body more small =
     ∙ header_end (name ++ decimal n) rest n k says ∙ body_with body more
 
 -- frames that are written are read again
-pub frames_read : (bodies : List Text) → AllByRecursion (λ body. length body ≤ 16777216) bodies →
+pub frames_read : (bodies : List Text) → AllByRecursion (λ body. length body ≤ 1000000000000000000) bodies →
     AreFrames bodies ends (flat_map framed bodies)
 frames_read [] small = refl
 frames_read (body ∷ bodies) small =

@@ -1,7 +1,7 @@
 -- Frames of messages over a stream of bytes: a header, and the body. The base protocol of the Language Server Protocol.
 use Rattle.std.specs.Fmt.{decimal}
 use Rattle.std.specs.Io.KnownBytes.{Consumes, IsAtEnd}
-use Rattle.std.specs.Prelude.{◌≡◌, ℕ, zero, suc, ◌==◌, nat_lt, if◌then◌else◌, List, []}
+use Rattle.std.specs.Prelude.{◌≡◌, ◌<◌, ◌≤◌, ℕ, zero, suc, ◌==◌, nat_lt, if◌then◌else◌, List, []}
 use Rattle.std.specs.Prelude.{◌∷◌, ◌++◌, codes, drop, length, take, Option, Some, None}
 use Rattle.flt_server_frames.specs.Line.{Text, said_by}
 use Rattle.flt_server_frames.specs.declared.frame.Frame.{Frame}
@@ -15,7 +15,7 @@ use Rattle.flt_server_frames.specs.declared.line.HeaderLine.TheVariants as said
 
 -- what is at the front of a stream
 pub data Front : Type 0 where
-  -- a frame of this body, and what comes after it
+  -- a frame of this body, however long that is, and what comes after it
   whole : Text → Text → Front
   -- nothing: the stream ends
   at_end : Front
@@ -71,6 +71,16 @@ abbrev pub AreFrames : List Text → Ending → Text → Type 0
 AreFrames [] ending stream = front_of stream ≡ ended ending
 AreFrames (body ∷ bodies) ending stream = (rest : Text) × (front_of stream ≡ whole body rest) × AreFrames bodies ending rest
 
+-- ---- long bodies
+
+-- a body that may be kept has 16,777,216 bytes at most; this project's own rule
+abbrev pub IsShort : Text → Type 0
+IsShort body = length body ≤ 16777216
+
+-- a body that is read past, and isn't kept
+abbrev pub IsTooLong : Text → Type 0
+IsTooLong body = 16777216 < length body
+
 -- ---- in pieces
 
 -- a reader gave these bytes, after which more of any kind may come, and so this is at the front of what it had
@@ -88,9 +98,11 @@ IsHead old new head.Malformed = Gives old new (λ more. malformed)
 IsHead old new head.Cut = GivesAll old new cut
 IsHead old new head.End = GivesAll old new at_end
 
--- what a reader had at the front: a frame, which was read, and nothing after it
+-- what a reader had at the front: a frame, which was read to its last byte, and nothing after it. Of a body that is too long nothing is
+-- known but that; the next frame begins after it
 abbrev pub IsFrame : Option Text → Option Text → Frame → Type 0
-IsFrame old new (frame.Body body) = Gives old new (whole body.items)
+IsFrame old new (frame.Body body) = IsShort body.items × Gives old new (whole body.items)
+IsFrame old new frame.TooLong = (body : Text) × IsTooLong body × Gives old new (whole body)
 IsFrame old new frame.Malformed = Gives old new (λ more. malformed)
 IsFrame old new frame.Cut = GivesAll old new cut
 IsFrame old new frame.End = GivesAll old new at_end

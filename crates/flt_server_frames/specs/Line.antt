@@ -28,12 +28,12 @@ abbrev pub after_blanks : Text → Text
 after_blanks [] = []
 after_blanks (b ∷ bytes) = if is_blank b then after_blanks bytes else (b ∷ bytes)
 
--- the number that the digits at the front spell, after those of another number, and what comes after them
+-- the number that the digits at the front spell, after those of another number, and what comes after them; none if it is above 10^18
 abbrev pub number_after : ℕ → Text → Option (ℕ × Text)
 number_after n [] = Some (n, [])
 number_after n (b ∷ bytes) =
     if is_ascii_digit b
-    then (if nat_lt 16777216 (10 * n + (b - 48)) then None else number_after (10 * n + (b - 48)) bytes)
+    then (if nat_lt 1000000000000000000 (10 * n + (b - 48)) then None else number_after (10 * n + (b - 48)) bytes)
     else Some (n, b ∷ bytes)
 
 abbrev pub is_empty : Text → Bool

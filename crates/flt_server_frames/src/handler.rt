@@ -1,6 +1,7 @@
 //! The part of a server that knows its protocol: it answers bodies of messages.
 
 ghost use Rattle.flt_server_frames.specs.Handling.{Reply, reply_of};
+ghost use Rattle.flt_server_frames.specs.Frames.{IsShort, IsTooLong};
 ghost use Rattle.std.specs.Prelude.{ℕ, List, IfOk};
 
 use std::alloc::{AllocError, Global};
@@ -23,5 +24,9 @@ pub trait Handler {
 
     /// The answer to a body, which may be no message of the protocol. Its own state is unspecified after an error.
     fn answer(&mut self, alloc: Global, body: &[u8]) -> Result<MessageAnswer, AllocError>
-        ensures { IfOk result (λ answered. answers self.old body.now (reply_of answered) self.new) };
+        ensures { IfOk result (λ answered. IsShort body.now → answers self.old body.now (reply_of answered) self.new) };
+
+    /// The answer to any body of more than 16,777,216 bytes, which isn't kept. Its own state is unspecified after an error.
+    fn answer_too_long(&mut self, alloc: Global) -> Result<MessageAnswer, AllocError>
+        ensures { IfOk result (λ answered. (body : List ℕ) → IsTooLong body → answers self.old body (reply_of answered) self.new) };
 }

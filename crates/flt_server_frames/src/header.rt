@@ -14,7 +14,7 @@ use std::alloc::{AllocError, Global};
 #[derive(Clone, Copy, Drop)]
 pub(crate) enum Head {
     /// A header that says this length of the body after it.
-    Length(u32),
+    Length(usize),
     /// The end of the stream.
     End,
     /// Bytes that aren't a header, or a header that is too long.
@@ -29,7 +29,7 @@ struct Part {
     /// The bytes of its current line.
     line: Vec<u8>,
     /// The length, if an earlier line says it.
-    length: Option<u32>,
+    length: Option<usize>,
 }
 
 /// The most bytes that a header has.
@@ -37,7 +37,7 @@ const MAX_HEADER: u32 = 8_192;
 
 impl Part {
     /// Begins the next line.
-    fn next_line(&mut self, length: Option<u32>)
+    fn next_line(&mut self, length: Option<usize>)
         ensures line { self.new.line.items ≡ [] }
         ensures length { self.new.length ≡ length }
     {

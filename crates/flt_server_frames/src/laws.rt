@@ -10,8 +10,8 @@ pub fn streams_have_one_reading()
         → AreFrames others end stream → (bodies ≡ others) × (ending ≡ end) }
 {}
 
-/// Bodies that are written as frames, each of 16,777,216 bytes at most, are read again, and then the stream ends.
+/// Bodies that are written as frames, each of 10^18 bytes at most, are read again, and then the stream ends.
 pub fn written_frames_are_read()
-    ensures { (bodies : List (List ℕ)) → AllByRecursion (λ body. length body ≤ 16777216) bodies
+    ensures { (bodies : List (List ℕ)) → AllByRecursion (λ body. length body ≤ 1000000000000000000) bodies
         → AreFrames bodies ends (flat_map framed bodies) }
 {}

@@ -9,15 +9,15 @@ pub(crate) enum HeaderLine {
     /// Nothing: it is empty, and the header ends with it.
     End,
     /// The length of the body.
-    Length(u32),
+    Length(usize),
     /// Something else, which is skipped.
     Other,
     /// A length that can't be read, or is too large.
     Malformed,
 }
 
-/// The most bytes that a body has.
-const MAX_BODY: u32 = 16_777_216;
+/// The greatest length that a header may say.
+const MAX_LENGTH: usize = 1_000_000_000_000_000_000;
 
 /// The name of the field that has the length of the body, in lower case, and the colon after it.
 const NAME: &[u8] = b"content-length:";
@@ -69,17 +69,17 @@ fn after_blanks(mut rest: &[u8]) -> &[u8]
     rest
 }
 
-/// The number that some digits spell, and the rest after them; none if it is more than a body may have.
-fn number(mut text: &[u8]) -> Option<(u32, &[u8])>
+/// The number that some digits spell, and the rest after them; none if it is greater than a length may be.
+fn number(mut text: &[u8]) -> Option<(usize, &[u8])>
     ensures { option_map (λ found. (found.0, found.1.now)) result ≡ spec.number_after 0 text.entry.now }
 {
-    let mut number = 0;
+    let mut number: usize = 0;
     while let [byte, rest @ ..] = text {
         if !byte.is_ascii_digit() {
             break;
         }
-        number = 10 * number + u32::from(*byte - b'0');
-        if number > MAX_BODY {
+        number = 10 * number + usize::from(*byte - b'0');
+        if number > MAX_LENGTH {
             return None;
         }
         text = rest;
@@ -88,7 +88,7 @@ fn number(mut text: &[u8]) -> Option<(u32, &[u8])>
 }
 
 /// The length that the value of a field spells: digits, and maybe blanks before and after them.
-fn length_in(value: &[u8]) -> Option<u32>
+fn length_in(value: &[u8]) -> Option<usize>
     ensures { result ≡ spec.length_in value.now }
 {
     let digits = after_blanks(value);

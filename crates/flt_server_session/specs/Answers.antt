@@ -6,6 +6,7 @@ use Rattle.json.specs.Find.{get}
 use Rattle.json.specs.Json.{Json, document}
 use Rattle.json.specs.Print.{print}
 use Rattle.json.specs.Tree.{json_tokens}
+use Rattle.flt_server_frames.specs.Frames.{IsShort, IsTooLong}
 use Rattle.flt_server_frames.specs.Handling as handling
 use Rattle.flt_server_frames.specs.declared.handler.MessageAnswer.{MessageAnswer}
 use Rattle.flt_server_session.specs.Commands.{Report, report_asked}
@@ -13,7 +14,7 @@ use Rattle.flt_server_session.specs.Messages.{Message, malformed, reply, notific
 use Rattle.flt_server_session.specs.Replies as replies
 use Rattle.flt_server_session.specs.declared.document.Document.{Document}
 use Rattle.flt_server_session.specs.declared.reply.Refusal.{Refusal}
-use Rattle.flt_server_session.specs.declared.reply.Refusal.TheVariants.{NotJson, NoRequest, UnknownMethod, BadParams, NotInitialized}
+use Rattle.flt_server_session.specs.declared.reply.Refusal.TheVariants.{NotJson, NoRequest, UnknownMethod, BadParams, NotInitialized, TooLong}
 use Rattle.flt_server_session.specs.declared.phase.Phase.{Phase}
 use Rattle.flt_server_session.specs.declared.phase.Phase.TheVariants.{Fresh, Ready, Stopped}
 use Rattle.flt_server_session.specs.declared.session.Session.{Session}
@@ -190,3 +191,20 @@ pub record IsAnswered (reports : List ℕ → List ℕ → List ℕ → Type 0)
   pub report : IsReported reports (report_of_body old read) answer.response
   pub ends : answer.ends ≡ end_of_body old.phase read
   pub phase : new.phase ≡ after_body old.phase read
+
+-- ---- bodies that are too long
+
+-- the answer to a body that is too long, whatever it says: an error without an id, and a message to the user
+abbrev pub too_long_reply : handling.Reply
+too_long_reply = record {
+  response = Some (replies.refused no_id TooLong);
+  notifications = replies.too_long_notice ∷ [];
+  ends = None;
+}
+
+-- from the first session any body may be answered so, and the second is the session afterwards: a body that is too long isn't read, and
+-- changes nothing
+pub data IsHandled (reports : List ℕ → List ℕ → List ℕ → Type 0)
+    (old : Session) (body : List ℕ) (answer : handling.Reply) (new : Session) : Type 0 where
+  by_reading : IsShort body → IsAnswered reports old body answer new → IsHandled reports old body answer new
+  by_length : IsTooLong body → answer ≡ too_long_reply → new ≡ old → IsHandled reports old body answer new

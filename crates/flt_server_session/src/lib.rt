@@ -1,6 +1,6 @@
 //! A session of the Language Server Protocol, whatever the language: which bodies are requests, how each is answered, and the documents
-//! that the client has open. It exports `Session`, the trait `Language` with the questions that a language answers, and the trait
-//! `Reporter`.
+//! that the client has open. It exports `Session`, `answer_too_long`, the trait `Language` with the questions that a language answers, and
+//! the trait `Reporter`.
 //!
 //! `specs/Answers.antt` has the properties that are proved of an answer: whether there is a response, to which request, and which error it
 //! is; whether the server ends; and the state of the session afterwards. No contract here is about the results that a language writes. The
@@ -17,6 +17,8 @@ mod params;
 mod phase;
 mod reply;
 mod session;
+mod too_long;
 
 pub use language::{Encoding, Language, OpenText, Question, Reporter, Spot};
 pub use session::Session;
+pub use too_long::answer_too_long;

@@ -19,6 +19,8 @@ pub enum Refusal {
     BadParams,
     /// A request before `initialize`.
     NotInitialized,
+    /// A body that is too long to be read.
+    TooLong,
 }
 
 impl Refusal {
@@ -37,6 +39,8 @@ impl Refusal {
                 b",\"error\":{\"code\":-32602,\"message\":\"the server doesn't know this command, or its argument is no open document\"}}",
             Refusal::NotInitialized =>
                 b",\"error\":{\"code\":-32002,\"message\":\"the server isn't initialized\"}}",
+            Refusal::TooLong =>
+                b",\"error\":{\"code\":-32600,\"message\":\"the body has more than 16,777,216 bytes\"}}",
         }
     }
 }

@@ -5,7 +5,7 @@ use Rattle.flt_server_frames.proofs.line.number.Given as goal
 abbrev pub invariant-loop-text : goal.invariant-loop-text
 invariant-loop-text l = record {
   goes_on : spec.number_after l.number l.text ≡ spec.number_after 0 l.fn.text;
-  few : l.number ≤ 16777216;
+  few : l.number ≤ 1000000000000000000;
 }
 
 abbrev pub decreases-loop-text : goal.decreases-loop-text
