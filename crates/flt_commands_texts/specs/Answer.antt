@@ -3,6 +3,7 @@ use Rattle.std.specs.Prelude.{ℕ, List, [], ◌∷◌, ◌++◌, codes, flat_ma
 use Rattle.std.specs.Fmt.{decimal}
 use Rattle.flt_files.specs.Unread.{status_beside}
 use Rattle.flt_rules.specs.Refusal.{refusal_line}
+use Rattle.flt_commands_texts.specs.Comparison.{compared_status, printed as printed_comparison}
 use Rattle.flt_commands_texts.specs.Driver.{driver_status}
 use Rattle.flt_commands_texts.specs.Outcomes.{files_status, printed}
 use Rattle.flt_commands_texts.specs.declared.answer.TextAnswer.{TextAnswer}
@@ -23,8 +24,8 @@ unemitted_line (Kinds line stream instance) = codes "not emitted line " ++ (deci
 unemitted_line (Create line) = codes "not emitted line " ++ (decimal line ++ codes " a pre create that completes with STATUS_SUCCESS")
 unemitted_line (Return line) = codes "not emitted line " ++ (decimal line ++ codes " a return that does not fit its callback")
 
--- what stands on the standard output: the certificate, a text or its map, a layout or which files differ from theirs, reports, a part of a
--- driver, or a line and a line feed
+-- what stands on the standard output: the certificate, a text or its map, a layout or which files differ from theirs, reports or how much
+-- was compared, a part of a driver, or a line and a line feed
 abbrev pub output : TextAnswer → List ℕ
 output Accepted = codes "accepted" ++ 10 ∷ []
 output (Refused f) = refusal_line f ++ 10 ∷ []
@@ -34,12 +35,7 @@ output (Formatted mode found) = flat_map (printed mode) found.files.items
 output (Emitted bytes) = bytes.items
 output (NotEmitted why) = unemitted_line why ++ 10 ∷ []
 output (EmittedInto driver) = []
-output (Compared reports) = reports.items
-
--- the exit status of reports on C files: 1 if there is one
-abbrev pub compared_status : List ℕ → ℕ
-compared_status [] = 0
-compared_status (b ∷ more) = 1
+output (Compared found) = printed_comparison found
 
 -- the exit status: 0 where the certificate covers or is found, of annotations, and of a part of a driver; of layouts, their own, where each
 -- file is read; 1 for any other answer
@@ -52,4 +48,4 @@ status_of (Formatted mode found) = status_beside (files_status mode found.files.
 status_of (Emitted bytes) = 0
 status_of (NotEmitted why) = 1
 status_of (EmittedInto driver) = driver_status driver.outcome
-status_of (Compared reports) = compared_status reports.items
+status_of (Compared found) = compared_status found.reports.items

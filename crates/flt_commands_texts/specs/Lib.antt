@@ -2,6 +2,7 @@ pub mod Analyse
 pub mod Answer
 pub mod Check
 pub mod Compare
+pub mod Comparison
 pub mod Driver
 pub mod Emit
 pub mod EmitInto

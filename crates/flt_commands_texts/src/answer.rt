@@ -3,6 +3,7 @@
 ghost use Rattle.std.specs.Prelude.{◌≡◌, Some, IfOk, string_bytes};
 ghost use Rattle.flt_commands_texts.specs.Answer as spec;
 
+use crate::comparison::{Comparison, comparison_status, printed_comparison};
 use crate::driver::{Driver, driver_status};
 use crate::emit::EmitFault;
 use crate::outcomes::{Outcomes, files_status, printed_files};
@@ -31,18 +32,8 @@ pub enum TextAnswer {
     NotEmitted(EmitFault),
     /// The parts of the driver that an accepted text is are written, as far as that could be done.
     EmittedInto(Driver),
-    /// The reports on C files that differ from their annotations.
-    Compared(Vec<u8>),
-}
-
-/// The exit status of reports on C files: 1 if there is one.
-fn compared_status(reports: &[u8]) -> u8
-    ensures { result ≡ spec.compared_status reports.now }
-{
-    match reports {
-        [] => 0,
-        [_, ..] => 1,
-    }
+    /// The comparison of C files with their annotations.
+    Compared(Comparison),
 }
 
 impl TextAnswer {
@@ -59,7 +50,7 @@ impl TextAnswer {
                 status_beside(status, found.unread.as_slice())
             }
             TextAnswer::Refused(_) | TextAnswer::NotEmitted(_) => 1,
-            TextAnswer::Compared(reports) => compared_status(reports.as_slice()),
+            TextAnswer::Compared(found) => comparison_status(found),
         }
     }
 
@@ -72,7 +63,7 @@ impl TextAnswer {
             TextAnswer::Extracted(bytes) => return Ok(bytes),
             TextAnswer::Emitted(bytes) => return Ok(bytes),
             TextAnswer::EmittedInto(_) => return Ok(Vec::new(alloc)),
-            TextAnswer::Compared(reports) => return Ok(reports),
+            TextAnswer::Compared(found) => return printed_comparison(alloc, found),
             TextAnswer::Formatted(mode, found) => {
                 return printed_files(alloc, mode, found.files.as_slice());
             }

@@ -508,7 +508,7 @@ fn bare_compare<'a>(alloc: Global) -> Command<'a>
         .about("Reports where the code of C files and their annotations differ")
         .override_usage("fltstack compare <FILE>...")
         .after_help(
-            "Prints a report for each annotated call that the code beside it doesn't make, each call that isn't annotated,\neach other status and each callback that only the code or only the annotations have (exit 1), or nothing (exit 0).\nIt compares words, and doesn't read the C. Errors go to the standard error with exit 2.\n\nExample: fltstack compare examples/c/ctx.c",
+            "Prints a report for each annotated call that the code beside it doesn't make, each call that isn't annotated,\neach other status and each callback that only the code or only the annotations have (exit 1), or that nothing\ndiffers (exit 0). It compares words, and doesn't read the C. Errors go to the standard error with exit 2.\n\nExample: fltstack compare examples/c/ctx.c",
         )
 }
 
