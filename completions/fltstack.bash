@@ -60,7 +60,7 @@ _fltstack() {
         options='--help'
         ;;
     explain)
-        options='--form --color --states --journal --runs --strict --allow --c --help'
+        options='--form --color --states --stack --journal --runs --strict --allow --c --help'
         valued='--form --color --states --journal --allow'
         repeated='--allow'
         pages='

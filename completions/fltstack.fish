@@ -179,6 +179,7 @@ complete -c fltstack -n '__fltstack_after explain --form' -l form -x -a 'html hu
 complete -c fltstack -n '__fltstack_after explain --color' -l color -x -a 'auto always never' -d 'When reports have colours'
 complete -c fltstack -n '__fltstack_after explain --states' -l states -x \
     -d 'How many states the search for runs of a FILE continues from at most'
+complete -c fltstack -n '__fltstack_after explain --stack' -l stack -d 'Take the FILEs for the filters of one stack'
 complete -c fltstack -n '__fltstack_after explain --journal' -l journal -x -a '(__fltstack_files .journal)' \
     -d 'Write the journal of the first finding that has one into this file'
 complete -c fltstack -n '__fltstack_after explain --runs' -l runs \

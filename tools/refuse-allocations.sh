@@ -201,7 +201,7 @@ runs=(
     "explain no_fast_io_broken.flt pass_through.flt"
     "explain --states 1 two_locks_broken.flt"
     "explain --states 1 completion_context_broken.flt"
-    "explain stream_context_broken.flt pending_reads.flt"
+    "explain --stack stream_context_broken.flt pending_reads.flt"
     "explain no_fast_io_broken.flt gone.flt"
     "explain --form sarif gone.flt no_fast_io_broken.flt"
     "explain --form lines readers_and_a_writer_broken.flt"

@@ -82,13 +82,17 @@ is_legal() {
 # files, and it is no longer than the journal beside a single file.
 has_journal() {
     local said beside
-    local -a each
+    local -a each asked=()
     read -ra each <<<"$1"
     each=("${each[@]:1}")
+    if [ "${each[0]}" = --stack ]; then
+        asked=(--stack)
+        each=("${each[@]:1}")
+    fi
     beside=${each[0]%.flt}.journal
     said=$(sed -n '/^   = journal: breaks/{s/^   = journal: \(breaks V[1-8] at [0-9]*\), .*/\1/p;q}' "$work/out")
     rm -f "$work/found"
-    "$program" explain --journal "$work/found" "${each[@]}" >/dev/null 2>&1 || true
+    "$program" explain "${asked[@]}" --journal "$work/found" "${each[@]}" >/dev/null 2>&1 || true
     runs=$((runs + 1))
     [ -n "$said" ] && [ "$("$program" replay "$work/found" "${each[@]}" 2>&1)" = "$said" ] ||
         differs "$1: replay doesn't say of its journal that it '$said'"
@@ -240,6 +244,7 @@ answers() {
     wants "$words" "${rest%% *}" "${rest#* }"
     case $words' '${rest%% *} in
     'run '*' 0') is_legal "$words" ;;
+    'explain --stack '*.flt' 1') has_journal "$words" ;;
     'explain --'*) ;;
     'explain '*.flt' 1') has_journal "$words" ;;
     'analyse '*' 0')

@@ -37,6 +37,7 @@ use Rattle.flt_words.specs.declared.request.Colour.{Colour}
 use Rattle.flt_words.specs.declared.request.Part.{Part}
 use Rattle.flt_words.specs.declared.request.Form.{Form}
 use Rattle.flt_words.specs.declared.request.Form.TheVariants.{Html, Human, Lines, LinesWithRuns, Sarif, SarifWithRuns, Short}
+use Rattle.flt_words.specs.declared.request.SearchChoice.{SearchChoice}
 use Rattle.json.specs.Token.{Token}
 use Rattle.flt_explain_texts.specs.declared.judged.TextJudgement.{TextJudgement as Found}
 use Rattle.flt_explain_texts.specs.declared.judged.TextJudgement.TheVariants.{Unread, Known}
@@ -281,16 +282,17 @@ module _ (law : Law) (runs : LawOfRuns) (nowhere : SpelledFailsNowhere) where
   own_zero status [] good = good
   own_zero status (file ∷ files) good = absurd (omega (arith, good))
 
-  explained : (gives : Giving) (is_c : Bool) (form : Form) (colour : Colour) (states : ℕ) (look : Look) (journal : Option Text)
+  explained : (gives : Giving) (is_c : Bool) (form : Form) (colour : Colour) (search : SearchChoice) (look : Look)
+      (journal : Option Text)
       (warnings : Choice) (files : List Text) (codes : List (Option Text)) (texts : List Text) (answer : ExplainAnswer) →
       IsExplained gives is_c form look warnings.allowed journal files codes texts (Ok answer) → explain_status answer ≡ 0 →
-      IsClean (Explain form colour states journal warnings is_c files) texts
-  explained gives is_c form colour states look journal warnings files codes texts (Explained e missed) said good =
+      IsClean (Explain form colour search journal warnings is_c files) texts
+  explained gives is_c form colour search look journal warnings files codes texts (Explained e missed) said good =
       let with = said.told.told in
       let zeros = both_zero with.own.explained.status _ (sym with.after.status ∙ own_zero e.explained.status missed.items good) in
       subst EachBreaksNothing (sym said.told.given)
       (told_well form look.options said.told.drifted said.told.sources missed.items with.own with.told.told zeros.0)
-  explained gives is_c form colour states look journal warnings files codes texts (has_pages t) said good = absurd said
+  explained gives is_c form colour search look journal warnings files codes texts (has_pages t) said good = absurd said
 
   -- what is emitted is covered
   covered : (emitting : Emitting) (has : Cert → Type 0) (refuses : TextAnswer → Type 0) (text : Text) (answer : TextAnswer) →
@@ -334,23 +336,25 @@ module _ (law : Law) (runs : LawOfRuns) (nowhere : SpelledFailsNowhere) where
     says_clean gives names texts IsSaidOf P said bytes status holds (own, same, is) reported good =
         own_clean gives names texts IsSaidOf P own bytes status holds is (subst (λ s. IsReported s bytes status) same reported) good
 
-  own_explains_clean : (gives : Giving) (is_c : Bool) (form : Form) (colour : Colour) (states : ℕ) (look : Look) (journal : Option Text)
+  own_explains_clean : (gives : Giving) (is_c : Bool) (form : Form) (colour : Colour) (search : SearchChoice) (look : Look)
+      (journal : Option Text)
       (warnings : Choice) (files : List Text) (codes : List (Option Text)) (texts : List Text) (own : Result ExplainAnswer Failure)
       (bytes : List ℕ) (status : ℕ) → IsExplained gives is_c form look warnings.allowed journal files codes texts own →
       IsReported (of_explain own) bytes status →
-      status ≡ 0 → IsClean (Explain form colour states journal warnings is_c files) texts
-  own_explains_clean gives is_c form colour states look journal warnings files codes texts (Ok answer) bytes status said reported good =
-      explained gives is_c form colour states look journal warnings files codes texts answer said (sym reported.1 ∙ good)
-  own_explains_clean gives is_c form colour states look journal warnings files codes texts (Err f) bytes status said reported good =
+      status ≡ 0 → IsClean (Explain form colour search journal warnings is_c files) texts
+  own_explains_clean gives is_c form colour search look journal warnings files codes texts (Ok answer) bytes status said reported good =
+      explained gives is_c form colour search look journal warnings files codes texts answer said (sym reported.1 ∙ good)
+  own_explains_clean gives is_c form colour search look journal warnings files codes texts (Err f) bytes status said reported good =
       absurd (omega (arith, reported.1.1, good))
 
-  explains_clean : (gives : Giving) (is_c : Bool) (form : Form) (colour : Colour) (states : ℕ) (look : Look) (journal : Option Text)
+  explains_clean : (gives : Giving) (is_c : Bool) (form : Form) (colour : Colour) (search : SearchChoice) (look : Look)
+      (journal : Option Text)
       (warnings : Choice) (files : List Text) (codes : List (Option Text)) (texts : List Text) (said : Result Answer Failure)
       (bytes : List ℕ) (status : ℕ) →
       IsOf OfExplain (IsExplained gives is_c form look warnings.allowed journal files codes texts) said → IsReported said bytes status →
-      status ≡ 0 → IsClean (Explain form colour states journal warnings is_c files) texts
-  explains_clean gives is_c form colour states look journal warnings files codes texts said bytes status (own, same, is) reported good =
-      own_explains_clean gives is_c form colour states look journal warnings files codes texts own bytes status is
+      status ≡ 0 → IsClean (Explain form colour search journal warnings is_c files) texts
+  explains_clean gives is_c form colour search look journal warnings files codes texts said bytes status (own, same, is) reported good =
+      own_explains_clean gives is_c form colour search look journal warnings files codes texts own bytes status is
       (subst (λ s. IsReported s bytes status) same reported) good
 
   -- where this is said of what is asked for, and reported with the status 0, the text breaks nothing
@@ -358,18 +362,20 @@ module _ (law : Law) (runs : LawOfRuns) (nowhere : SpelledFailsNowhere) where
       (said : Result Answer Failure) (bytes : List ℕ) (status : ℕ) →
       IsSaid shown gives request codes texts said → IsReported said bytes status → status ≡ 0 → IsClean request texts
   clean_of shown gives (Check file cert) codes texts said bytes status is reported good =
-      says_clean OfText gives _ texts IsChecked _ said bytes status (λ answer is well. checked texts answer file cert is well) is reported good
+      says_clean OfText gives _ texts IsChecked _ said bytes status (λ answer is well. checked texts answer file cert is well) is reported
+      good
   clean_of shown gives (Analyse file) codes texts said bytes status is reported good =
       says_clean OfText gives _ texts IsAnalysed _ said bytes status (λ answer is well. analysed texts answer file is well) is reported good
   clean_of shown gives (Thin file cert) codes texts said bytes status is reported good =
-      says_clean OfText gives _ texts IsThinned _ said bytes status (λ answer is well. thinned texts answer file cert is well) is reported good
+      says_clean OfText gives _ texts IsThinned _ said bytes status (λ answer is well. thinned texts answer file cert is well) is reported
+      good
   clean_of shown gives (Run workers quiet script files) codes texts said bytes status is reported good =
       says_clean OfRun gives _ texts IsRan _ said bytes status
       (λ answer is well. driven texts answer workers quiet script files is well) is reported good
   clean_of shown gives (Replay journal files) codes texts said bytes status is reported good = tt
   clean_of shown gives (Show timeline picture journal files) codes texts said bytes status is reported good = tt
-  clean_of shown gives (Explain form colour states journal warnings is_c files) codes texts said bytes status is reported good =
-      explains_clean gives is_c form colour states (look_in colour shown states warnings) journal warnings files codes texts said bytes
+  clean_of shown gives (Explain form colour search journal warnings is_c files) codes texts said bytes status is reported good =
+      explains_clean gives is_c form colour search (look_in colour shown search warnings) journal warnings files codes texts said bytes
       status is reported good
   clean_of shown gives (Extract of_map files) codes texts said bytes status is reported good = tt
   clean_of shown gives (Format mode files) codes texts said bytes status is reported good = tt

@@ -89,7 +89,7 @@ module _ (gives : Giving) (one : GivesOne gives) where
   gives_one (Run workers quiet script files) = but_once (Some script)
   gives_one (Replay journal files) = but_once (Some journal)
   gives_one (Show timeline picture journal files) = but_once (Some journal)
-  gives_one (Explain form colour states journal warnings is_c files) = one
+  gives_one (Explain form colour search journal warnings is_c files) = one
   gives_one (Extract of_map files) = one
   gives_one (Format mode files) = one
   gives_one (Pages names) = one
@@ -136,10 +136,11 @@ module _ (checked : SaysOne OfText IsChecked) (analysed : SaysOne OfText IsAnaly
   said_once gives shown showing (Replay journal files) codes others texts more a b has one x y =
       says_of_one_kind OfRun gives one (names_of (Replay journal files)) IsReplayed replayed texts more a b x y
   said_once gives shown showing (Show timeline picture journal files) codes others texts more a b has one x y = absurd has
-  said_once gives shown showing (Explain form colour states journal warnings is_c files) codes others texts more a b has one x y =
+  said_once gives shown showing (Explain form colour search journal warnings is_c files) codes others texts more a b has one x y =
       absurd has
   said_once gives shown showing (Extract of_map files) codes others texts more a b has one x y =
-      says_of_one_kind OfText gives one (names_of (Extract of_map files)) (IsExtracted of_map files) (extracts_once of_map files) texts more a b x y
+      says_of_one_kind OfText gives one (names_of (Extract of_map files)) (IsExtracted of_map files) (extracts_once of_map files) texts
+      more a b x y
   said_once gives shown showing (Format modes.Print files) codes others texts more a b has one x y =
       of_one_kind OfText (IsFormatSaid gives modes.Print files texts) (IsFormatSaid gives modes.Print files more)
       (layouts_said_once nowhere gives one modes.Print (λ e. cc) files texts more) a b x y

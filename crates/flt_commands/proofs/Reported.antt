@@ -27,6 +27,7 @@ use Rattle.flt_words.specs.Words.{asked}
 use Rattle.flt_words.specs.declared.request.Colour.{Colour}
 use Rattle.flt_words.specs.declared.request.Form.{Form}
 use Rattle.flt_words.specs.declared.request.FormatMode.TheVariants.{Write}
+use Rattle.flt_words.specs.declared.request.SearchChoice.{SearchChoice}
 use Rattle.flt_commands.specs.declared.answer.Answer.{Answer}
 use Rattle.flt_commands_explain.specs.declared.answer.ExplainAnswer.{ExplainAnswer}
 use Rattle.flt_commands_explain.specs.declared.answer.ExplainAnswer.TheVariants.{Explained, Pages}
@@ -82,7 +83,7 @@ may_have (Err f) = tt
 
 -- where it has none, it has those that another request has
 none_are_had : (request : Asked) (report : Report) → report.codes.items ≡ [] → HasCodes request report
-none_are_had (Explain form colour states journal warnings is_c files) report none = tt
+none_are_had (Explain form colour search journal warnings is_c files) report none = tt
 none_are_had _ report none = none
 
 -- ---- pages, and what stands before a line
@@ -139,18 +140,19 @@ unread_none (Explained e unread) good = none_unread e.explained.status unread.it
 unread_none (Pages pages) good = refl
 
 -- of what `explain` says, where no file is named for a journal
-pub quiet_for : (form : Form) (colour : Colour) (states : ℕ) (journal : Option Text) (warnings : Choice) (is_c : Bool) (files : List Text)
-    (before : List ℕ) (own : Result ExplainAnswer Failure) (result : Result Report CommandFault) → IsFound journal own before →
+pub quiet_for : (form : Form) (colour : Colour) (search : SearchChoice) (journal : Option Text) (warnings : Choice) (is_c : Bool)
+    (files : List Text) (before : List ℕ) (own : Result ExplainAnswer Failure) (result : Result Report CommandFault) →
+    IsFound journal own before →
     IfOk result (λ report. IsReported (of_explain own) report.output.items report.status) →
     IfOk result (λ report. report.status ≢ 2 → report.remark.items ≡ before) →
-    IfOk result (λ report. report.status ≢ 2 → NamesNoJournal (Some (Explain form colour states journal warnings is_c files)) →
+    IfOk result (λ report. report.status ≢ 2 → NamesNoJournal (Some (Explain form colour search journal warnings is_c files)) →
     report.remark.items ≡ [])
-quiet_for form colour states (Some name) warnings is_c files before own (Ok report) found reported same = λ good names. absurd names
-quiet_for form colour states None warnings is_c files before (Ok answer) (Ok report) found reported same =
+quiet_for form colour search (Some name) warnings is_c files before own (Ok report) found reported same = λ good names. absurd names
+quiet_for form colour search None warnings is_c files before (Ok answer) (Ok report) found reported same =
     λ good names. same good ∙ found ∙ ap (λ lines. lines ++ []) (unread_none answer (λ two. good (reported.1 ∙ two)))
-quiet_for form colour states None warnings is_c files before (Err f) (Ok report) found reported same =
+quiet_for form colour search None warnings is_c files before (Err f) (Ok report) found reported same =
     λ good names. absurd (good reported.1.1)
-quiet_for form colour states journal warnings is_c files before own (Err e) found reported same = tt
+quiet_for form colour search journal warnings is_c files before own (Err e) found reported same = tt
 
 -- ---- of a request, and of the words that ask for it
 
@@ -228,7 +230,7 @@ put_anyway written does folder texts (Err f) is = λ other. tt
 
 kept_anyway : (written : Text → Text → Type 0) (does : List Attempt → Type 0) (request : Asked) (texts : List Text)
     (said : Result Answer Failure) → IsKept written does request texts said → IsKept written any request texts said
-kept_anyway written does (Explain form colour states journal warnings is_c files) texts said (own, same, is) =
+kept_anyway written does (Explain form colour search journal warnings is_c files) texts said (own, same, is) =
     (own, same, written_anyway written (does []) journal own is)
 kept_anyway written does (Show timeline (Some picture) journal files) texts said is = is
 kept_anyway written does (Format Write files) texts said (own, same, is) = (own, same, all_changed_anyway written (does []) own is)

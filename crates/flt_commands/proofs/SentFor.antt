@@ -6,6 +6,7 @@ use Rattle.std.specs.Io.KnownBytes.{Appends}
 use Rattle.flt_commands.specs.Commands.{IsCutShort as IsCutShortFor}
 use Rattle.flt_commands_explain.proofs.Sent.{cut_short}
 use Rattle.flt_commands_explain.specs.Allowed.{options_of}
+use Rattle.flt_commands_explain.specs.Explain.{search_of}
 use Rattle.flt_files.specs.Inputs.{Giving, Text}
 use Rattle.flt_words.specs.Request.{Asked, Check, Analyse, Thin, Run, Replay, Show, Explain}
 use Rattle.flt_words.specs.Request.{Extract, Format, Pages, Emit, EmitInto, Compare, Serve}
@@ -26,8 +27,8 @@ cut_short_for gives (Some (Thin file cert)) old = Appends-nil old
 cut_short_for gives (Some (Run workers quiet script files)) old = Appends-nil old
 cut_short_for gives (Some (Replay journal files)) old = Appends-nil old
 cut_short_for gives (Some (Show timeline picture journal files)) old = Appends-nil old
-cut_short_for gives (Some (Explain form colour states journal warnings is_c files)) old =
-    cut_short gives is_c form (options_of warnings) states warnings.allowed files old
+cut_short_for gives (Some (Explain form colour search journal warnings is_c files)) old =
+    cut_short gives is_c form (options_of warnings) (search_of search) warnings.allowed files old
 cut_short_for gives (Some (Extract of_map files)) old = Appends-nil old
 cut_short_for gives (Some (Format mode files)) old = Appends-nil old
 cut_short_for gives (Some (Pages names)) old = Appends-nil old

@@ -14,7 +14,7 @@ use Rattle.flt_commands_runs.specs.Drawn.{IsDrawn}
 use Rattle.flt_commands_texts.specs.Emit.{IsEmitted}
 use Rattle.flt_commands_texts.specs.EmitInto.{ArePut, IsEmittedInto, remark_in}
 use Rattle.flt_commands_explain.specs.Explain as explain
-use Rattle.flt_commands_explain.specs.Explain.{ArePaged, IsExplained, IsWritten, look_in}
+use Rattle.flt_commands_explain.specs.Explain.{ArePaged, IsExplained, IsWritten, look_in, search_of}
 use Rattle.flt_commands_texts.specs.Extract.{IsExtracted}
 use Rattle.flt_commands.specs.FailureLine.{failure_line}
 use Rattle.flt_commands_texts.specs.LayoutRemarks.{remarks_in}
@@ -66,8 +66,8 @@ IsSaid shown gives (Run workers quiet script files) codes texts =
 IsSaid shown gives (Replay journal files) codes texts = IsOf OfRun (Says gives (names_of (Replay journal files)) IsReplayed texts)
 IsSaid shown gives (Show timeline picture journal files) codes texts =
     IsOf OfRun (Says gives (names_of (Show timeline picture journal files)) (IsShown timeline picture) texts)
-IsSaid shown gives (Explain form colour states journal warnings is_c files) codes texts =
-    IsOf OfExplain (IsExplained gives is_c form (look_in colour shown states warnings) warnings.allowed journal files codes texts)
+IsSaid shown gives (Explain form colour search journal warnings is_c files) codes texts =
+    IsOf OfExplain (IsExplained gives is_c form (look_in colour shown search warnings) warnings.allowed journal files codes texts)
 IsSaid shown gives (Extract of_map files) codes texts =
     IsOf OfText (Says gives (names_of (Extract of_map files)) (IsExtracted of_map files) texts)
 IsSaid shown gives (Format mode files) codes texts = IsOf OfText (IsFormatSaid gives mode files texts)
@@ -98,7 +98,7 @@ IsRemarkedAfter before (Err f) bytes = bytes ≡ before ++ (failure_line f ++ 10
 -- what may stand before it: which files of `explain` and `format` aren't read; why a file isn't written or has no layout; that no run
 -- is found; and which files of a driver are as they were or aren't written
 abbrev pub IsBefore : Asked → Result Answer Failure → List ℕ → Type 0
-IsBefore (Explain form colour states journal warnings is_c files) said bytes = IsOf OfExplain (λ own. IsFound journal own bytes) said
+IsBefore (Explain form colour search journal warnings is_c files) said bytes = IsOf OfExplain (λ own. IsFound journal own bytes) said
 IsBefore (Show timeline picture journal files) said bytes = OnOk said (bytes ≡ [])
 IsBefore (Format mode files) said bytes = IsOf OfText (λ own. IfOk own (λ answer. bytes ≡ remarks_in answer)) said
 IsBefore (EmitInto folder is_forced file cert) said bytes = IsOf OfText (λ own. bytes ≡ remark_in own) said
@@ -113,18 +113,18 @@ IsRemarked request said bytes = (before : List ℕ) × IsBefore request said bef
 -- nothing goes out before all is known, but of `explain` of files, and there only where a form isn't one document and no file is named
 -- for a journal
 abbrev pub HoldsBack : Option Asked → Type 0
-HoldsBack (Some (Explain form colour states journal warnings is_c files)) = explain.HoldsBack form journal
+HoldsBack (Some (Explain form colour search journal warnings is_c files)) = explain.HoldsBack form journal
 HoldsBack request = Unit {0}
 
 -- where memory runs out, nothing went out, or of `explain` what is told of the first files that are read
 abbrev pub IsCutShort : Giving → Option Asked → Option Text → Option Text → Type 0
-IsCutShort gives (Some (Explain form colour states journal warnings is_c files)) old new =
-    explain.IsCutShort gives is_c form (options_of warnings) states warnings.allowed files old new
+IsCutShort gives (Some (Explain form colour search journal warnings is_c files)) old new =
+    explain.IsCutShort gives is_c form (options_of warnings) (search_of search) warnings.allowed files old new
 IsCutShort gives request old new = Appends old new []
 
 -- no file is named for the journal of a finding, and no folder for a driver
 abbrev pub NamesNoJournal : Option Asked → Type 0
-NamesNoJournal (Some (Explain form colour states (Some journal) warnings is_c files)) = ⊥
+NamesNoJournal (Some (Explain form colour search (Some journal) warnings is_c files)) = ⊥
 NamesNoJournal (Some (EmitInto folder is_forced file cert)) = ⊥
 NamesNoJournal request = Unit {0}
 
@@ -140,7 +140,7 @@ codes_of report = map (option_map (λ code. code.items)) report.codes.items
 
 -- only a report of `explain` on files has any
 abbrev pub HasCodes : Asked → Report → Type 0
-HasCodes (Explain form colour states journal warnings is_c files) report = Unit {0}
+HasCodes (Explain form colour search journal warnings is_c files) report = Unit {0}
 HasCodes request report = report.codes.items ≡ []
 
 -- what the names give is what the report has: the texts, and first the journal, where one was read
@@ -155,7 +155,7 @@ AreThose request report texts said = texts ≡ texts_in report
 -- there; where layouts are written, each goes into its file; a driver's parts go into its folder; where no file is named for a picture or a
 -- journal, and no layout and no driver is written, nothing is done, and all that is written stays as it was
 abbrev pub IsKept : (Text → Text → Type 0) → (List Attempt → Type 0) → Asked → List Text → Result Answer Failure → Type 0
-IsKept written does (Explain form colour states journal warnings is_c files) texts said =
+IsKept written does (Explain form colour search journal warnings is_c files) texts said =
     IsOf OfExplain (λ own. IfOk own (IsWritten written (does []) journal)) said
 IsKept written does (Show timeline (Some picture) journal files) texts said =
     IsOf OfRun (λ own. IfOk own (IsDrawn written picture (drop 1 texts))) said

@@ -35,7 +35,7 @@ AreSame a b = a ≢ Err OutOfMemory → b ≢ Err OutOfMemory → seen a ≡ see
 abbrev pub HasOneAnswer : Asked → Type 0
 HasOneAnswer (Run workers quiet script files) = ⊥
 HasOneAnswer (Show timeline picture journal files) = ⊥
-HasOneAnswer (Explain form colour states journal warnings is_c files) = ⊥
+HasOneAnswer (Explain form colour search journal warnings is_c files) = ⊥
 HasOneAnswer (Format Write files) = ⊥
 HasOneAnswer (Pages names) = ⊥
 HasOneAnswer (Emit part file cert) = ⊥

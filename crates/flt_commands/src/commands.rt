@@ -171,7 +171,7 @@ fn report_of<'a, R: Threads + Wait + Sync, I: Inputs, P: Pictures, O: Sink, W: W
         Request::Explain {
             form,
             colour,
-            states,
+            search,
             journal,
             warnings,
             is_c,
@@ -180,18 +180,18 @@ fn report_of<'a, R: Threads + Wait + Sync, I: Inputs, P: Pictures, O: Sink, W: W
             let asked = ExplainOptions {
                 form,
                 coloured: is_coloured(colour, coloured),
-                states,
+                search,
                 journal,
                 options: options_of(&warnings),
                 allowed: warnings.allowed.as_slice(),
                 is_c,
             };
-            let mut search = Search {
+            let mut watched = Search {
                 watch,
-                most: states,
+                most: search.states,
             };
             let files = files.as_slice();
-            report_on_files(alloc, asked, inputs, files, pictures, out, &mut search)
+            report_on_files(alloc, asked, inputs, files, pictures, out, &mut watched)
         }
         Request::Extract { map, files } => {
             let said = extract_files(alloc, inputs, map, files.as_slice(), &mut contents);

@@ -33,17 +33,17 @@ pub(crate) fn report_on_files<'a, I: Inputs, P: Pictures, O: Sink, W: SearchWatc
         asked.entry.options ≡ options_of warnings → map (λ name. name.now) asked.entry.allowed.now ≡ warnings.allowed →
         IfOk result (IsAnswered shown (I.gives inputs.now) (P.written pictures.new)
         (Does (pictures.new ≡ pictures.old) (P.tried pictures.old) (P.tried pictures.new))
-        (Explain asked.entry.form colour asked.entry.states (option_map (λ name. name.now) asked.entry.journal) warnings
+        (Explain asked.entry.form colour asked.entry.search (option_map (λ name. name.now) asked.entry.journal) warnings
         asked.entry.is_c (map (λ name. name.now) files.now))) }
     ensures quiet { (colour : Colour) → (warnings : Choice) → IfOk result (λ report. report.status ≢ 2 →
-        NamesNoJournal (Some (Explain asked.entry.form colour asked.entry.states (option_map (λ name. name.now) asked.entry.journal)
+        NamesNoJournal (Some (Explain asked.entry.form colour asked.entry.search (option_map (λ name. name.now) asked.entry.journal)
         warnings asked.entry.is_c (map (λ name. name.now) files.now))) → report.remark.items ≡ []) }
     ensures sent { IfOk result (λ report. Appends (O.taken out.old) (O.taken out.new) (take report.sent report.output.items)) }
     ensures held { spec.HoldsBack asked.entry.form (option_map (λ name. name.now) asked.entry.journal) → out.new ≡ out.old }
     ensures fine { OnOk result (O.failures out.new ≡ O.failures out.old) }
     ensures write { IfErr result (λ e. e ≡ CommandFault.Write → O.failures out.new ≢ O.failures out.old) }
     ensures memory { IfErr result (λ e. e ≡ CommandFault.OutOfMemory →
-        spec.IsCutShort (I.gives inputs.now) asked.entry.is_c asked.entry.form asked.entry.options asked.entry.states
+        spec.IsCutShort (I.gives inputs.now) asked.entry.is_c asked.entry.form asked.entry.options (spec.search_of asked.entry.search)
         (map (λ name. name.now) asked.entry.allowed.now) (map (λ name. name.now) files.now) (O.taken out.old) (O.taken out.new)) }
 {
     covered_texts_break_nothing();

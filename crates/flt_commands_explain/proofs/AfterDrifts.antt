@@ -10,6 +10,7 @@ use Rattle.flt_explain_texts.specs.declared.sources.Source.{Source}
 use Rattle.flt_explain_forms.specs.declared.as_lines.Style.{Style}
 use Rattle.flt_explain_forms.specs.Lines.{AreLines}
 use Rattle.flt_explain_runs.specs.declared.explaining.ExplainOutput.{ExplainOutput}
+use Rattle.flt_explain_outcomes.specs.declared.schedules.RunSearch.{RunSearch}
 use Rattle.flt_explain_warning_details.specs.declared.options.WarningOptions.{WarningOptions}
 use Rattle.flt_words.specs.declared.request.Form.{Form}
 use Rattle.flt_commands_explain.specs.Explain.{IsCutAfter}
@@ -46,9 +47,10 @@ cut_always (Ok t) is = tt
 cut_always (Err e) is = λ short. is
 
 -- nothing went out
-pub nothing_after : (drifts : Text) (form : Form) (options : WarningOptions) (states : ℕ) (sources : List Source) (old : Option Text) →
-    IsCutAfter drifts form options states sources old old
-nothing_after drifts form options states sources old = explain.nothing_out (Appends-nil old)
+pub nothing_after : (drifts : Text) (form : Form) (options : WarningOptions) (search : RunSearch) (sources : List Source) (old : Option
+    Text) →
+    IsCutAfter drifts form options search sources old old
+nothing_after drifts form options search sources old = explain.nothing_out (Appends-nil old)
 
 -- the drifts went out, and some of what is told of the texts
 pub early_sent : (old between new : Option Text) (drifts : Text) (own e : ExplainOutput) → Appends old between drifts →

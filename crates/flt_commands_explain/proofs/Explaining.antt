@@ -14,6 +14,7 @@ use Rattle.flt_joined.specs.declared.joined.JoinedTexts.{JoinedTexts}
 use Rattle.flt_places.specs.declared.files.SourceFile.{SourceFile}
 use Rattle.flt_explain_runs.specs.Whole.{Look}
 use Rattle.flt_explain_runs.specs.declared.explaining.ExplainOutput.{ExplainOutput}
+use Rattle.flt_explain_outcomes.specs.declared.schedules.RunSearch.{RunSearch}
 use Rattle.flt_explain_warning_details.specs.declared.options.WarningOptions.{WarningOptions}
 use Rattle.flt_words.specs.declared.request.Form.{Form}
 use Rattle.flt_files.proofs.Firsts.{mapped_twice}
@@ -73,18 +74,18 @@ module _ (form : Form) (look : Look) (allowed : List Text) (journal : Option Tex
   joined_told unread (Err e) is = tt
 
   -- where that is cut short
-  pub joined_cut : (options : WarningOptions) (states : ℕ) (old new : Option Text) (result : Result ExplainOutput CommandFault) →
-      IfErr result (λ e. e ≡ OutOfMemory → IsCutAfter (first_in form drifted) form options states sources old new) →
-      IfErr result (λ e. e ≡ OutOfMemory → IsCutOfFiles form options states allowed (givens files) old new)
-  joined_cut options states old new (Ok t) cut = tt
-  joined_cut options states old new (Err e) cut = λ short. explain.some_told drifted sources _ compared these (cut short)
+  pub joined_cut : (options : WarningOptions) (search : RunSearch) (old new : Option Text) (result : Result ExplainOutput CommandFault) →
+      IfErr result (λ e. e ≡ OutOfMemory → IsCutAfter (first_in form drifted) form options search sources old new) →
+      IfErr result (λ e. e ≡ OutOfMemory → IsCutOfFiles form options search allowed (givens files) old new)
+  joined_cut options search old new (Ok t) cut = tt
+  joined_cut options search old new (Err e) cut = λ short. explain.some_told drifted sources _ compared these (cut short)
 
   -- or where memory runs out later
-  pub joined_out : (options : WarningOptions) (states : ℕ) (old new : Option Text) (result : Result ExplainOutput CommandFault) →
-      OnOk result (IsCutAfter (first_in form drifted) form options states sources old new) →
-      OnOk result (IsCutOfFiles form options states allowed (givens files) old new)
-  joined_out options states old new (Ok t) cut = explain.some_told drifted sources _ compared these cut
-  joined_out options states old new (Err e) cut = tt
+  pub joined_out : (options : WarningOptions) (search : RunSearch) (old new : Option Text) (result : Result ExplainOutput CommandFault) →
+      OnOk result (IsCutAfter (first_in form drifted) form options search sources old new) →
+      OnOk result (IsCutOfFiles form options search allowed (givens files) old new)
+  joined_out options search old new (Ok t) cut = explain.some_told drifted sources _ compared these cut
+  joined_out options search old new (Err e) cut = tt
 
 -- ---- of names and what they give
 
@@ -96,37 +97,37 @@ coded_as files codes same =
     ∙ mapped_twice (λ (f : GivenFile). f.code) (option_map (λ code. code.items)) files
     ∙ sym (mapped_twice given_of (λ (g : Given). g.code) files)
 
-module _ (gives : Giving) (is_c : Bool) (form : Form) (options : WarningOptions) (states : ℕ) (allowed files : List Text) where
+module _ (gives : Giving) (is_c : Bool) (form : Form) (options : WarningOptions) (search : RunSearch) (allowed files : List Text) where
   -- what is told of those that are read is cut short
   pub cut_read : (f : NamedFiles) (old new : Option Text) → AreFoundIn is_c gives files f →
-      IsCutOfFiles form options states allowed (givens f.read.items) old new →
-      IsCutShort gives is_c form options states allowed files old new
+      IsCutOfFiles form options search allowed (givens f.read.items) old new →
+      IsCutShort gives is_c form options search allowed files old new
   cut_read f old new are cut = explain.some_read _ _ are.are cut
 
   -- nothing went out where a file is named for a journal
   pub cut_named : {O : Type 0} (taken : O → Option Text) (old new : O) (journal : Option (Bor Text)) → journal ≢ None →
       (HoldsBack form (option_map (λ name. name.now) journal) → new ≡ old) →
-      IsCutShort gives is_c form options states allowed files (taken old) (taken new)
+      IsCutShort gives is_c form options search allowed files (taken old) (taken new)
   cut_named taken old new journal named held =
-      rw (held (holds_named form journal named)) (cut_short gives is_c form options states allowed files (taken old))
+      rw (held (holds_named form journal named)) (cut_short gives is_c form options search allowed files (taken old))
 
   -- nor where its journal isn't written
   cut_unwritten : {O : Type 0} (taken : O → Option Text) (old new : O) (look : Look) (journal : Option Text)
       (codes : List (Option Text))
       (texts : List Text) (said : Explanation) → IsErr (said_of said) →
       IsExplained gives is_c form look allowed journal files codes texts (said_of said) → (HoldsBack form journal → new ≡ old) →
-      IsCutShort gives is_c form options states allowed files (taken old) (taken new)
+      IsCutShort gives is_c form options search allowed files (taken old) (taken new)
   cut_unwritten taken old new look journal codes texts (Said t unread) err is held =
       let e : false ≡ true = err in let no : ⊥ = cc in absurd no
   cut_unwritten taken old new look journal codes texts (Unwritten name why) err is held =
-      rw (held (holds_some form journal name.now is.0)) (cut_short gives is_c form options states allowed files (taken old))
+      rw (held (holds_some form journal name.now is.0)) (cut_short gives is_c form options search allowed files (taken old))
 
   -- the same of a report
   pub cut_reported : {O R : Type 0} (taken : O → Option Text) (old new : O) (look : Look) (journal : Option Text)
       (codes : List (Option Text)) (texts : List Text) (said : Explanation) (result : Result R CommandFault) →
       IfErr result (λ e. (e ≡ OutOfMemory) × IsErr (said_of said)) →
       IsExplained gives is_c form look allowed journal files codes texts (said_of said) → (HoldsBack form journal → new ≡ old) →
-      IfErr result (λ e. e ≡ OutOfMemory → IsCutShort gives is_c form options states allowed files (taken old) (taken new))
+      IfErr result (λ e. e ≡ OutOfMemory → IsCutShort gives is_c form options search allowed files (taken old) (taken new))
   cut_reported taken old new look journal codes texts said (Ok report) err is held = tt
   cut_reported taken old new look journal codes texts said (Err e) err is held =
       λ short. cut_unwritten taken old new look journal codes texts said err.1 is held

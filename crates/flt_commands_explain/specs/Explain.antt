@@ -20,6 +20,7 @@ use Rattle.flt_explain_runs.specs.Reported.{AreReports, IsAllButLast, IsCut}
 use Rattle.flt_explain_runs.specs.Told.{Tells}
 use Rattle.flt_explain_runs.specs.Whole.{IsPrint, Look}
 use Rattle.flt_explain_outcomes.specs.declared.noted.Note.{Note}
+use Rattle.flt_explain_outcomes.specs.declared.schedules.RunSearch.{RunSearch}
 use Rattle.flt_explain_runs.specs.declared.explaining.ExplainOutput.{ExplainOutput}
 use Rattle.flt_explain_texts.specs.Reports.{texts_of}
 use Rattle.flt_explain_texts.specs.declared.sources.Source.{Source}
@@ -29,6 +30,7 @@ use Rattle.flt_words.specs.declared.request.Colour.TheVariants.{Auto, Always, Ne
 use Rattle.flt_words.specs.declared.request.Form.{Form}
 use Rattle.flt_words.specs.Shown.{visible}
 use Rattle.flt_words.specs.declared.request.Form.TheVariants.{Html, Human, Lines, LinesWithRuns, Sarif, SarifWithRuns, Short}
+use Rattle.flt_words.specs.declared.request.SearchChoice.{SearchChoice}
 use Rattle.flt_explain_warning_details.specs.declared.options.WarningOptions.{WarningOptions}
 use Rattle.flt_words.specs.Request.{Choice}
 use Rattle.flt_commands_explain.specs.Allowed.{options_of}
@@ -77,24 +79,28 @@ IsTold SarifWithRuns options drifted sources unread t = IsToldWithRuns options d
 IsTold Html options drifted sources unread t =
     IsPageOn options (drifts_told Html drifted) sources t.explained.output.items t.explained.status
 
--- what came of the findings of these texts in runs, of each that is reported by itself; nothing is looked for where that is neither told
--- nor written into a file
-abbrev pub AreNotedFor : Form → Option Text → List Text → List Note → Type 0
-AreNotedFor form (Some name) texts noted = AreNotes texts noted
-AreNotedFor Human None texts noted = AreNotes texts noted
-AreNotedFor Html None texts noted = AreNotes texts noted
-AreNotedFor LinesWithRuns None texts noted = AreNotes texts noted
-AreNotedFor SarifWithRuns None texts noted = AreNotes texts noted
-AreNotedFor form None texts noted = noted ≡ []
+-- what came of the findings of these texts in runs, of each that is reported by itself, in runs of all texts only where a stack is asked
+-- for; nothing is looked for where that is neither told nor written into a file
+abbrev pub AreNotedFor : Bool → Form → Option Text → List Text → List Note → Type 0
+AreNotedFor is_stack form (Some name) texts noted = AreNotes is_stack texts noted
+AreNotedFor is_stack Human None texts noted = AreNotes is_stack texts noted
+AreNotedFor is_stack Html None texts noted = AreNotes is_stack texts noted
+AreNotedFor is_stack LinesWithRuns None texts noted = AreNotes is_stack texts noted
+AreNotedFor is_stack SarifWithRuns None texts noted = AreNotes is_stack texts noted
+AreNotedFor is_stack form None texts noted = noted ≡ []
 
 -- for people it is also told what came of findings in runs: in the notes' lines, and in no others
-abbrev pub IsNoteTold : Form → List Text → ℕ → ExplainOutput → Type 0
-IsNoteTold Human texts states e = Tells texts states e.noted e.explained.output.items
-IsNoteTold _ texts states e = Unit {0}
+abbrev pub IsNoteTold : Form → List Text → RunSearch → ExplainOutput → Type 0
+IsNoteTold Human texts search e = Tells texts search e.noted e.explained.output.items
+IsNoteTold _ texts search e = Unit {0}
 
--- how it is printed: with colours or without, after how many states the search for runs ends, and which warnings are left out
+-- how runs are looked for, as it is asked for
+abbrev pub search_of : SearchChoice → RunSearch
+search_of c = record { states = c.states; is_stack = c.is_stack }
+
+-- how it is printed: with colours or without, how runs are looked for, and which warnings are left out
 abbrev pub look_of : ExplainOptions → Look
-look_of asked = record { coloured = asked.coloured; states = asked.states; options = asked.options }
+look_of asked = record { coloured = asked.coloured; search = search_of asked.search; options = asked.options }
 
 -- for people all of what is printed is the reports with the notes, to the letter; a page has these without colours, after these drifts,
 -- with pictures. The runs in other forms are those of the notes that a report has: one of each finding that it reports by itself
@@ -102,16 +108,16 @@ abbrev pub IsPrintTold : Form → Look → List DriftedFile → List Source → 
 IsPrintTold Human look drifted sources e = IsPrint look sources e.noted e.explained.output.items e.explained.status
 IsPrintTold Html look drifted sources e =
     IsPaged look (drifts_told Html drifted) sources e.noted e.explained.output.items e.explained.status
-IsPrintTold LinesWithRuns look drifted sources e = AreNotes (texts_of sources) e.noted
-IsPrintTold SarifWithRuns look drifted sources e = AreNotes (texts_of sources) e.noted
+IsPrintTold LinesWithRuns look drifted sources e = AreNotes look.search.is_stack (texts_of sources) e.noted
+IsPrintTold SarifWithRuns look drifted sources e = AreNotes look.search.is_stack (texts_of sources) e.noted
 IsPrintTold _ look drifted sources e = Unit {0}
 
 -- all that is known of what is told of texts, with these drifts within a page or a document, and beside the files that aren't read
 pub record IsToldUnder (form : Form) (look : Look) (journal : Option Text) (drifted : List DriftedFile) (sources : List Source)
     (unread : List UnreadFile) (e : ExplainOutput) : Type 0 where
   pub told : IsTold form look.options drifted sources unread e
-  pub noted : AreNotedFor form journal (texts_of sources) e.noted
-  pub notes : IsNoteTold form (texts_of sources) look.states e
+  pub noted : AreNotedFor look.search.is_stack form journal (texts_of sources) e.noted
+  pub notes : IsNoteTold form (texts_of sources) look.search e
   pub print : IsPrintTold form look drifted sources e
 
 -- this is what is told of texts, after drifts that are worth this status
@@ -188,9 +194,9 @@ is_coloured Always shown = true
 is_coloured Never shown = false
 
 -- how it is printed then
-abbrev pub look_in : Colour → Bool → ℕ → Choice → Look
-look_in colour shown states warnings =
-    record { coloured = is_coloured colour shown; states = states; options = options_of warnings }
+abbrev pub look_in : Colour → Bool → SearchChoice → Choice → Look
+look_in colour shown search warnings =
+    record { coloured = is_coloured colour shown; search = search_of search; options = options_of warnings }
 
 -- what is said of it: an answer, or that a file can't be written
 abbrev pub said_of : Explanation → Result ExplainAnswer Failure
@@ -226,14 +232,14 @@ HoldsBack SarifWithRuns None = Unit {0}
 HoldsBack form None = ⊥
 
 -- what goes out before the end where nothing is held back: for people the reports of all texts but the last, else all lines
-abbrev pub GoesOutEarly : Form → WarningOptions → List Source → ℕ → ExplainOutput → Type 0
-GoesOutEarly Human options sources states e = IsAllButLast options sources states (take e.sent e.explained.output.items)
-GoesOutEarly Short options sources states e = e.sent ≡ length e.explained.output.items
-GoesOutEarly Lines options sources states e = e.sent ≡ length e.explained.output.items
-GoesOutEarly Sarif options sources states e = Unit {0}
-GoesOutEarly Html options sources states e = Unit {0}
-GoesOutEarly LinesWithRuns options sources states e = Unit {0}
-GoesOutEarly SarifWithRuns options sources states e = Unit {0}
+abbrev pub GoesOutEarly : Form → WarningOptions → List Source → RunSearch → ExplainOutput → Type 0
+GoesOutEarly Human options sources search e = IsAllButLast options sources search (take e.sent e.explained.output.items)
+GoesOutEarly Short options sources search e = e.sent ≡ length e.explained.output.items
+GoesOutEarly Lines options sources search e = e.sent ≡ length e.explained.output.items
+GoesOutEarly Sarif options sources search e = Unit {0}
+GoesOutEarly Html options sources search e = Unit {0}
+GoesOutEarly LinesWithRuns options sources search e = Unit {0}
+GoesOutEarly SarifWithRuns options sources search e = Unit {0}
 
 -- what went out of an answer; where there is none, nothing did
 abbrev pub IsSent : Option Text → Option Text → Result ExplainAnswer Failure → Type 0
@@ -241,38 +247,38 @@ IsSent old new (Ok answer) = Appends old new (take (sent_of answer) (output answ
 IsSent old new (Err f) = Appends old new []
 
 -- where memory runs out, what went out is told of the first texts: whole reports, or whole lines of each
-abbrev pub IsCutIn : Form → WarningOptions → ℕ → List Source → Option Text → Option Text → Type 0
-IsCutIn Human options states sources old new = IsCut options sources states old new
-IsCutIn Short options states sources old new = AreFirstLines Sentence options sources old new
-IsCutIn Lines options states sources old new = AreFirstLines Object options sources old new
-IsCutIn Sarif options states sources old new = Appends old new []
-IsCutIn Html options states sources old new = Appends old new []
-IsCutIn LinesWithRuns options states sources old new = Appends old new []
-IsCutIn SarifWithRuns options states sources old new = Appends old new []
+abbrev pub IsCutIn : Form → WarningOptions → RunSearch → List Source → Option Text → Option Text → Type 0
+IsCutIn Human options search sources old new = IsCut options sources search old new
+IsCutIn Short options search sources old new = AreFirstLines Sentence options sources old new
+IsCutIn Lines options search sources old new = AreFirstLines Object options sources old new
+IsCutIn Sarif options search sources old new = Appends old new []
+IsCutIn Html options search sources old new = Appends old new []
+IsCutIn LinesWithRuns options search sources old new = Appends old new []
+IsCutIn SarifWithRuns options search sources old new = Appends old new []
 
 -- the same after these drifts; or nothing went out
-pub data IsCutAfter (drifts : Text) (form : Form) (options : WarningOptions) (states : ℕ) (sources : List Source) (old new : Option Text) :
-    Type 0 where
-  nothing_out : Appends old new [] → IsCutAfter drifts form options states sources old new
-  drifts_out : (between : Option Text) → Appends old between drifts → IsCutIn form options states sources between new →
-      IsCutAfter drifts form options states sources old new
+pub data IsCutAfter (drifts : Text) (form : Form) (options : WarningOptions) (search : RunSearch) (sources : List Source)
+    (old new : Option Text) : Type 0 where
+  nothing_out : Appends old new [] → IsCutAfter drifts form options search sources old new
+  drifts_out : (between : Option Text) → Appends old between drifts → IsCutIn form options search sources between new →
+      IsCutAfter drifts form options search sources old new
 
 -- the same of the texts that files make that are read, after the drifts of the C files among them but for kinds of these names; or
 -- nothing went out
-pub data IsCutOfFiles (form : Form) (options : WarningOptions) (states : ℕ) (allowed : List Text) (files : List Given)
+pub data IsCutOfFiles (form : Form) (options : WarningOptions) (search : RunSearch) (allowed : List Text) (files : List Given)
     (old new : Option Text) : Type 0 where
-  none_told : Appends old new [] → IsCutOfFiles form options states allowed files old new
+  none_told : Appends old new [] → IsCutOfFiles form options search allowed files old new
   some_told : (drifted : List DriftedFile) (sources : List Source) (refused : List Text) → AreDrifted allowed files drifted →
-      AreSources (told_name form) files sources refused → IsCutAfter (first_in form drifted) form options states sources old new →
-      IsCutOfFiles form options states allowed files old new
+      AreSources (told_name form) files sources refused → IsCutAfter (first_in form drifted) form options search sources old new →
+      IsCutOfFiles form options search allowed files old new
 
 -- the same of those of the files of these names that are read; or nothing went out
-pub data IsCutShort (gives : Giving) (is_c : Bool) (form : Form) (options : WarningOptions) (states : ℕ) (allowed names : List Text)
+pub data IsCutShort (gives : Giving) (is_c : Bool) (form : Form) (options : WarningOptions) (search : RunSearch) (allowed names : List Text)
     (old new : Option Text) :
     Type 0 where
-  none_read : Appends old new [] → IsCutShort gives is_c form options states allowed names old new
+  none_read : Appends old new [] → IsCutShort gives is_c form options search allowed names old new
   some_read : (files : List Given) (missing : List Text) → AreFound is_c gives names files missing →
-      IsCutOfFiles form options states allowed files old new → IsCutShort gives is_c form options states allowed names old new
+      IsCutOfFiles form options search allowed files old new → IsCutShort gives is_c form options search allowed names old new
 
 -- ---- pages
 

@@ -80,7 +80,7 @@ pub record IsPageOn (options : WarningOptions) (drifts : Text) (sources : List S
 
 -- without colours
 abbrev pub plain : Look → Look
-plain look = record { coloured = false; states = look.states; options = look.options }
+plain look = record { coloured = false; search = look.search; options = look.options }
 
 -- a page on what is printed of texts without colours, after these drifts
 pub record IsPaged (look : Look) (drifts : Text) (sources : List Source) (notes : List Note) (written : Text) (status : ℕ) : Type 0 where

@@ -26,7 +26,11 @@ use Rattle.flt_server_session.specs.declared.phase.Phase.TheVariants.{Fresh}
 
 -- how `explain` prints without options
 abbrev pub look : Look
-look = record { coloured = false; states = 40000; options = options_of (record { strict = false; allowed = [] }) }
+look = record {
+  coloured = false;
+  search = record { states = 40000; is_stack = false };
+  options = options_of (record { strict = false; allowed = [] });
+}
 
 -- this is what `explain` prints of the text that this file makes, to the letter
 pub record IsExplained (g : Given) (printed : Text) : Type 0 where

@@ -115,10 +115,12 @@ fn explain_early<O: Sink, W: SearchWatch>(
     ensures fine { OnOk result (O.failures out.new ≡ O.failures out.old) }
     ensures write { IfErr result (λ e. e ≡ CommandFault.Write → O.failures out.new ≢ O.failures out.old) }
     ensures memory { IfErr result (λ e. e ≡ CommandFault.OutOfMemory →
-        spec.IsCutAfter (spec.first_in asked.entry.form drifted.now) asked.entry.form asked.entry.options asked.entry.states sources.now
+        spec.IsCutAfter (spec.first_in asked.entry.form drifted.now) asked.entry.form asked.entry.options
+        (spec.search_of asked.entry.search) sources.now
         (O.taken out.old) (O.taken out.new)) }
     ensures cut { OnOk result
-        (spec.IsCutAfter (spec.first_in asked.entry.form drifted.now) asked.entry.form asked.entry.options asked.entry.states sources.now
+        (spec.IsCutAfter (spec.first_in asked.entry.form drifted.now) asked.entry.form asked.entry.options
+        (spec.search_of asked.entry.search) sources.now
         (O.taken out.old) (O.taken out.new)) }
 {
     let first = first_drifts(alloc, asked.form, drifted)?;
@@ -150,10 +152,12 @@ pub(crate) fn explain_after<O: Sink, W: SearchWatch>(
     ensures fine { OnOk result (O.failures out.new ≡ O.failures out.old) }
     ensures write { IfErr result (λ e. e ≡ CommandFault.Write → O.failures out.new ≢ O.failures out.old) }
     ensures memory { IfErr result (λ e. e ≡ CommandFault.OutOfMemory →
-        spec.IsCutAfter (spec.first_in asked.entry.form drifted.now) asked.entry.form asked.entry.options asked.entry.states sources.now
+        spec.IsCutAfter (spec.first_in asked.entry.form drifted.now) asked.entry.form asked.entry.options
+        (spec.search_of asked.entry.search) sources.now
         (O.taken out.old) (O.taken out.new)) }
     ensures cut { OnOk result
-        (spec.IsCutAfter (spec.first_in asked.entry.form drifted.now) asked.entry.form asked.entry.options asked.entry.states sources.now
+        (spec.IsCutAfter (spec.first_in asked.entry.form drifted.now) asked.entry.form asked.entry.options
+        (spec.search_of asked.entry.search) sources.now
         (O.taken out.old) (O.taken out.new)) }
 {
     if holds_back(asked) {

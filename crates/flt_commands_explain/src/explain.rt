@@ -23,7 +23,7 @@ use crate::in_turn::lines_in_turn;
 use crate::remarks::unread_lines;
 use crate::sources::{add_refused, bytes_in, codes_in, sources_of};
 use flt_explain_forms::{DriftedFile, Style, lines, sarif};
-use flt_explain_outcomes::{Note, first_journal, notes_on};
+use flt_explain_outcomes::{Note, RunSearch, first_journal, notes_on};
 use flt_explain_pages::page;
 use flt_explain_runs::{Asking, ExplainOutput, SearchWatch, explain};
 use flt_explain_texts::{Printout, Source};
@@ -31,7 +31,7 @@ use flt_explain_warning_details::WarningOptions;
 use flt_files::{Contents, Failure, Inputs, OutputFault, Pictures, UnreadFile};
 use flt_joined::{GivenFile, JoinedTexts, join, source_files};
 use flt_model::{Sink, journal_bytes};
-use flt_words::{Form, visible};
+use flt_words::{Form, SearchChoice, visible};
 use sqlite_items::Items;
 use std::alloc::{AllocError, Global};
 
@@ -71,8 +71,8 @@ pub enum Explanation<'a> {
 pub struct ExplainOptions<'a> {
     pub form: Form,
     pub coloured: bool,
-    /// The greatest number of states from which the search for runs of a text continues.
-    pub states: u32,
+    /// How runs of the texts are looked for.
+    pub search: SearchChoice,
     /// The file into which the journal of the first finding that has one is written.
     pub journal: Option<&'a str>,
     /// Which warnings are left out, and whether they count.
@@ -83,16 +83,26 @@ pub struct ExplainOptions<'a> {
     pub is_c: bool,
 }
 
-/// The same options, for reports for people.
+/// How runs are looked for, as it is asked for.
+fn search_of(choice: SearchChoice) -> RunSearch
+    ensures { result ≡ spec.search_of choice }
+{
+    RunSearch {
+        states: choice.states,
+        is_stack: choice.is_stack,
+    }
+}
+
+/// The options of `explain`, for reports for people.
 fn asking(asked: ExplainOptions<'_>, is_held: bool) -> Asking
     ensures coloured { result.coloured ≡ asked.entry.coloured }
-    ensures states { result.states ≡ asked.entry.states }
+    ensures search { result.search ≡ spec.search_of asked.entry.search }
     ensures held { result.is_held ≡ is_held }
     ensures options { result.options ≡ asked.entry.options }
 {
     Asking {
         coloured: asked.coloured,
-        states: asked.states,
+        search: search_of(asked.search),
         is_held,
         options: asked.options,
     }
@@ -138,14 +148,14 @@ fn told_page<O: Sink, W: SearchWatch>(
     ensures paged { IfOk result (λ t.
         IsPaged (spec.look_of asked.entry) (drifts_told Form.Html drifted.now) sources.now t.noted t.explained.output.items
         t.explained.status) }
-    ensures noted { IfOk result (λ t. AreNotes (texts_of sources.now) t.noted) }
+    ensures noted { IfOk result (λ t. AreNotes asked.entry.search.is_stack (texts_of sources.now) t.noted) }
     ensures sent { IfOk result (λ t. t.sent ≡ 0) }
     ensures held { out.new ≡ out.old }
     ensures err { IfErr result (λ e. e ≡ CommandFault.OutOfMemory) }
 {
     let plain = Asking {
         coloured: false,
-        states: asked.states,
+        search: search_of(asked.search),
         is_held: true,
         options: asked.options,
     };
@@ -165,11 +175,11 @@ fn lines_with_runs<W: SearchWatch>(
     watch: &mut W,
 ) -> Result<ExplainOutput, CommandFault>
     ensures told { IfOk result (spec.AreToldWithRuns asked.entry.options sources.now) }
-    ensures noted { IfOk result (λ t. AreNotes (texts_of sources.now) t.noted) }
+    ensures noted { IfOk result (λ t. AreNotes asked.entry.search.is_stack (texts_of sources.now) t.noted) }
     ensures sent { IfOk result (λ t. t.sent ≡ 0) }
     ensures err { IfErr result (λ e. e ≡ CommandFault.OutOfMemory) }
 {
-    let noted = notes_on(alloc, asked.states, sources, watch)?;
+    let noted = notes_on(alloc, search_of(asked.search), sources, watch)?;
     let runs = runs_of(alloc, sources, noted.as_slice())?;
     let explained = lines(
         alloc,
@@ -191,11 +201,11 @@ fn sarif_with_runs<W: SearchWatch>(
     watch: &mut W,
 ) -> Result<ExplainOutput, CommandFault>
     ensures told { IfOk result (spec.IsToldWithRuns asked.entry.options drifted.now sources.now unread.now) }
-    ensures noted { IfOk result (λ t. AreNotes (texts_of sources.now) t.noted) }
+    ensures noted { IfOk result (λ t. AreNotes asked.entry.search.is_stack (texts_of sources.now) t.noted) }
     ensures sent { IfOk result (λ t. t.sent ≡ 0) }
     ensures err { IfErr result (λ e. e ≡ CommandFault.OutOfMemory) }
 {
-    let noted = notes_on(alloc, asked.states, sources, watch)?;
+    let noted = notes_on(alloc, search_of(asked.search), sources, watch)?;
     let runs = runs_of(alloc, sources, noted.as_slice())?;
     let explained = sarif(
         alloc,
@@ -221,18 +231,20 @@ fn told_in_turn<O: Sink, W: SearchWatch>(
     watch: &mut W,
 ) -> Result<ExplainOutput, CommandFault>
     ensures told { IfOk result (spec.IsTold asked.entry.form asked.entry.options drifted.now sources.now unread.now) }
-    ensures noted { IfOk result (λ t. spec.AreNotedFor asked.entry.form None (texts_of sources.now) t.noted) }
-    ensures notes { IfOk result (spec.IsNoteTold asked.entry.form (texts_of sources.now) asked.entry.states) }
+    ensures noted { IfOk result (λ t. spec.AreNotedFor asked.entry.search.is_stack asked.entry.form None (texts_of sources.now) t.noted) }
+    ensures notes { IfOk result (spec.IsNoteTold asked.entry.form (texts_of sources.now) (spec.search_of asked.entry.search)) }
     ensures print { IfOk result (spec.IsPrintTold asked.entry.form (spec.look_of asked.entry) drifted.now sources.now) }
     ensures sent { IfOk result (λ t. Appends (O.taken out.old) (O.taken out.new) (take t.sent t.explained.output.items)) }
-    ensures early { IfOk result (spec.GoesOutEarly asked.entry.form asked.entry.options sources.now asked.entry.states) }
+    ensures early { IfOk result (spec.GoesOutEarly asked.entry.form asked.entry.options sources.now (spec.search_of asked.entry.search)) }
     ensures cut { IfOk result (λ t.
-        spec.IsCutIn asked.entry.form asked.entry.options asked.entry.states sources.now (O.taken out.old) (O.taken out.new)) }
+        spec.IsCutIn asked.entry.form asked.entry.options
+        (spec.search_of asked.entry.search) sources.now (O.taken out.old) (O.taken out.new)) }
     ensures held { spec.HoldsBack asked.entry.form None → out.new ≡ out.old }
     ensures fine { OnOk result (O.failures out.new ≡ O.failures out.old) }
     ensures write { IfErr result (λ e. e ≡ CommandFault.Write → O.failures out.new ≢ O.failures out.old) }
     ensures memory { IfErr result (λ e. e ≡ CommandFault.OutOfMemory →
-        spec.IsCutIn asked.entry.form asked.entry.options asked.entry.states sources.now (O.taken out.old) (O.taken out.new)) }
+        spec.IsCutIn asked.entry.form asked.entry.options
+        (spec.search_of asked.entry.search) sources.now (O.taken out.old) (O.taken out.new)) }
 {
     let options = asked.options;
     match asked.form {
@@ -267,8 +279,8 @@ fn told_whole<O: Sink, W: SearchWatch>(
     watch: &mut W,
 ) -> Result<ExplainOutput, CommandFault>
     ensures told { IfOk result (spec.IsTold asked.entry.form asked.entry.options drifted.now sources.now unread.now) }
-    ensures noted { IfOk result (λ t. AreNotes (texts_of sources.now) t.noted) }
-    ensures notes { IfOk result (spec.IsNoteTold asked.entry.form (texts_of sources.now) asked.entry.states) }
+    ensures noted { IfOk result (λ t. AreNotes asked.entry.search.is_stack (texts_of sources.now) t.noted) }
+    ensures notes { IfOk result (spec.IsNoteTold asked.entry.form (texts_of sources.now) (spec.search_of asked.entry.search)) }
     ensures print { IfOk result (spec.IsPrintTold asked.entry.form (spec.look_of asked.entry) drifted.now sources.now) }
     ensures sent { IfOk result (λ t. Appends (O.taken out.old) (O.taken out.new) (take t.sent t.explained.output.items)) }
     ensures held { out.new ≡ out.old }
@@ -285,7 +297,7 @@ fn told_whole<O: Sink, W: SearchWatch>(
         ),
         Form::Html => return told_page(alloc, asked, drifted, sources, out, watch),
     };
-    let notes = notes_on(alloc, asked.states, sources, watch)?;
+    let notes = notes_on(alloc, search_of(asked.search), sources, watch)?;
     Ok(unsent(explained, notes))
 }
 
@@ -302,18 +314,20 @@ pub(crate) fn told<O: Sink, W: SearchWatch>(
     watch: &mut W,
 ) -> Result<ExplainOutput, CommandFault>
     ensures told { IfOk result (spec.IsTold asked.entry.form asked.entry.options drifted.now sources.now unread.now) }
-    ensures noted { IfOk result (λ t. spec.AreNotedFor asked.entry.form (option_map (λ name. name.now) asked.entry.journal)
-        (texts_of sources.now) t.noted) }
-    ensures notes { IfOk result (spec.IsNoteTold asked.entry.form (texts_of sources.now) asked.entry.states) }
+    ensures noted { IfOk result (λ t. spec.AreNotedFor asked.entry.search.is_stack asked.entry.form
+        (option_map (λ name. name.now) asked.entry.journal) (texts_of sources.now) t.noted) }
+    ensures notes { IfOk result (spec.IsNoteTold asked.entry.form (texts_of sources.now) (spec.search_of asked.entry.search)) }
     ensures print { IfOk result (spec.IsPrintTold asked.entry.form (spec.look_of asked.entry) drifted.now sources.now) }
     ensures sent { IfOk result (λ t. Appends (O.taken out.old) (O.taken out.new) (take t.sent t.explained.output.items)) }
     ensures cut { IfOk result (λ t.
-        spec.IsCutIn asked.entry.form asked.entry.options asked.entry.states sources.now (O.taken out.old) (O.taken out.new)) }
+        spec.IsCutIn asked.entry.form asked.entry.options
+        (spec.search_of asked.entry.search) sources.now (O.taken out.old) (O.taken out.new)) }
     ensures held { spec.HoldsBack asked.entry.form (option_map (λ name. name.now) asked.entry.journal) → out.new ≡ out.old }
     ensures fine { OnOk result (O.failures out.new ≡ O.failures out.old) }
     ensures write { IfErr result (λ e. e ≡ CommandFault.Write → O.failures out.new ≢ O.failures out.old) }
     ensures memory { IfErr result (λ e. e ≡ CommandFault.OutOfMemory →
-        spec.IsCutIn asked.entry.form asked.entry.options asked.entry.states sources.now (O.taken out.old) (O.taken out.new)) }
+        spec.IsCutIn asked.entry.form asked.entry.options
+        (spec.search_of asked.entry.search) sources.now (O.taken out.old) (O.taken out.new)) }
 {
     match asked.journal {
         Some(_) => told_whole(alloc, asked, drifted, sources, unread, out, watch),
@@ -341,10 +355,12 @@ fn told_joined<'s, O: Sink, W: SearchWatch>(
     ensures fine { OnOk result (O.failures out.new ≡ O.failures out.old) }
     ensures write { IfErr result (λ e. e ≡ CommandFault.Write → O.failures out.new ≢ O.failures out.old) }
     ensures memory { IfErr result (λ e. e ≡ CommandFault.OutOfMemory →
-        spec.IsCutOfFiles asked.entry.form asked.entry.options asked.entry.states (map (λ name. name.now) asked.entry.allowed.now)
+        spec.IsCutOfFiles asked.entry.form asked.entry.options
+        (spec.search_of asked.entry.search) (map (λ name. name.now) asked.entry.allowed.now)
         (givens files.now) (O.taken out.old) (O.taken out.new)) }
     ensures cut { OnOk result
-        (spec.IsCutOfFiles asked.entry.form asked.entry.options asked.entry.states (map (λ name. name.now) asked.entry.allowed.now)
+        (spec.IsCutOfFiles asked.entry.form asked.entry.options
+        (spec.search_of asked.entry.search) (map (λ name. name.now) asked.entry.allowed.now)
         (givens files.now) (O.taken out.old) (O.taken out.new)) }
 {
     let drifted = drifted_files(alloc, asked.allowed, files)?;
@@ -435,7 +451,7 @@ pub fn explain_files<'a, I: Inputs, P: Pictures, O: Sink, W: SearchWatch>(
     ensures fine { OnOk result (O.failures out.new ≡ O.failures out.old) }
     ensures write { IfErr result (λ e. e ≡ CommandFault.Write → O.failures out.new ≢ O.failures out.old) }
     ensures memory { IfErr result (λ e. e ≡ CommandFault.OutOfMemory →
-        spec.IsCutShort (I.gives inputs.now) asked.entry.is_c asked.entry.form asked.entry.options asked.entry.states
+        spec.IsCutShort (I.gives inputs.now) asked.entry.is_c asked.entry.form asked.entry.options (spec.search_of asked.entry.search)
         (map (λ name. name.now) asked.entry.allowed.now) (map (λ name. name.now) files.now) (O.taken out.old) (O.taken out.new)) }
 {
     let NamedFiles { read, mut unread } = find_each(alloc, inputs, asked.is_c, files)?;

@@ -10,6 +10,7 @@ use crate::annotated::annotated;
 use crate::drifts::{drifted_files, tell_drifts};
 use crate::remarks::lines_on_file;
 use flt_c::is_c_file;
+use flt_explain_outcomes::RunSearch;
 use flt_explain_runs::{Asking, UnwatchedSearch, explain};
 use flt_explain_texts::Source;
 use flt_explain_warning_details::WarningOptions;
@@ -50,7 +51,10 @@ fn asking() -> Asking
 {
     Asking {
         coloured: false,
-        states: DEFAULT_STATES,
+        search: RunSearch {
+            states: DEFAULT_STATES,
+            is_stack: false,
+        },
         is_held: true,
         options: WarningOptions {
             allowed: AllowedKinds::none(),

@@ -1,5 +1,5 @@
 -- What is answered of findings, one by one.
-use Rattle.std.proofs.Common.{◌≡◌, ◌<◌, ◌+◌, ℕ, zero, suc, List, [], ◌∷◌, ◌++◌, Some, None, Option, IfOk}
+use Rattle.std.proofs.Common.{◌≡◌, ◌<◌, ◌+◌, ℕ, zero, suc, Bool, List, [], ◌∷◌, ◌++◌, Some, None, Option, IfOk}
 use Rattle.std.proofs.Common.{IfSome, Result, Ok, Err, length, take, get_or, slice_get, arith, subst}
 use Rattle.std.specs.List.{AllZip}
 use Rattle.std.specs.declared.alloc.AllocError.{AllocError}
@@ -53,46 +53,51 @@ found_by items p found goals seen (Ok a) same meant are =
 found_by items p found goals seen (Err e) same meant are = tt
 
 -- what runs of all filters have, where those may meet
-together_for : (trees : List Tree) (n : ℕ) (s : Suspect) (a : Answer) → MayMeet trees n → IsFoundFor (filters_of trees) s.finding a →
-    IsTogetherFor trees n s.finding a
-together_for trees n s (Breaks b) may is = (is, may)
-together_for trees n s NotWithin may is = tt
-together_for trees n s Cut may is = tt
+together_for : (is_stack : Bool) (trees : List Tree) (n : ℕ) (s : Suspect) (a : Answer) → MayMeet is_stack trees n →
+    IsFoundFor (filters_of trees) s.finding a →
+    IsTogetherFor is_stack trees n s.finding a
+together_for is_stack trees n s (Breaks b) may is = (is, may)
+together_for is_stack trees n s NotWithin may is = tt
+together_for is_stack trees n s Cut may is = tt
 
-each_together : (trees : List Tree) (n : ℕ) (s : Suspect) (o : Option Answer) →
-    MayMeet trees n → IfSome o (IsFoundFor (filters_of trees) s.finding) →
-    IfSome o (IsTogetherFor trees n s.finding)
-each_together trees n s (Some b) may has = together_for trees n s b may has
-each_together trees n s None may has = tt
+each_together : (is_stack : Bool) (trees : List Tree) (n : ℕ) (s : Suspect) (o : Option Answer) →
+    MayMeet is_stack trees n → IfSome o (IsFoundFor (filters_of trees) s.finding) →
+    IfSome o (IsTogetherFor is_stack trees n s.finding)
+each_together is_stack trees n s (Some b) may has = together_for is_stack trees n s b may has
+each_together is_stack trees n s None may has = tt
 
 -- answers for findings of filters that may meet are answers for them together
-pub together_by : {V : Type 0} (items : V → List Answer) (trees : List Tree) (n : ℕ) (found : List Suspect) (r : Result V AllocError) →
-    MayMeet trees n →
-    IfOk r (λ a. AreFound (filters_of trees) found (items a)) → IfOk r (λ a. AreTogether trees n found (items a))
-together_by items trees n found (Ok a) may are =
-    λ k s is. each_together trees n s (slice_get (items a) k) may (are k s is)
-together_by items trees n found (Err e) may are = tt
+pub together_by : {V : Type 0} (items : V → List Answer) (is_stack : Bool) (trees : List Tree) (n : ℕ) (found : List Suspect)
+    (r : Result V AllocError) →
+    MayMeet is_stack trees n →
+    IfOk r (λ a. AreFound (filters_of trees) found (items a)) → IfOk r (λ a. AreTogether is_stack trees n found (items a))
+together_by items is_stack trees n found (Ok a) may are =
+    λ k s is. each_together is_stack trees n s (slice_get (items a) k) may (are k s is)
+together_by items is_stack trees n found (Err e) may are = tt
 
-found_of : (trees : List Tree) (n : ℕ) (f : Finding) (a : Answer) → IsTogetherFor trees n f a → IsFoundFor (filters_of trees) f a
-found_of trees n f (Breaks b) is = is.0
-found_of trees n f NotWithin is = tt
-found_of trees n f Cut is = tt
+found_of : (is_stack : Bool) (trees : List Tree) (n : ℕ) (f : Finding) (a : Answer) → IsTogetherFor is_stack trees n f a →
+    IsFoundFor (filters_of trees) f a
+found_of is_stack trees n f (Breaks b) is = is.0
+found_of is_stack trees n f NotWithin is = tt
+found_of is_stack trees n f Cut is = tt
 
 -- what runs of all filters have is a run of them
-pub together_found : (trees : List Tree) (n : ℕ) (f : Finding) (a : Option (Bor Answer)) →
-    IsTogetherBy trees n f a → IsFoundBy (filters_of trees) f a
-together_found trees n f (Some b) is = found_of trees n f b.now is
-together_found trees n f None is = tt
+pub together_found : (is_stack : Bool) (trees : List Tree) (n : ℕ) (f : Finding) (a : Option (Bor Answer)) →
+    IsTogetherBy is_stack trees n f a → IsFoundBy (filters_of trees) f a
+together_found is_stack trees n f (Some b) is = found_of is_stack trees n f b.now is
+together_found is_stack trees n f None is = tt
 
-may_of : (trees : List Tree) (n : ℕ) (f : Finding) (a : Answer) (b : BreakingJournal) →
-    a ≡ Breaks b → IsTogetherFor trees n f a → MayMeet trees n
-may_of trees n f a b is together = (subst (IsTogetherFor trees n f) is together).1
+may_of : (is_stack : Bool) (trees : List Tree) (n : ℕ) (f : Finding) (a : Answer) (b : BreakingJournal) →
+    a ≡ Breaks b → IsTogetherFor is_stack trees n f a → MayMeet is_stack trees n
+may_of is_stack trees n f a b is together = (subst (IsTogetherFor is_stack trees n f) is together).1
 
 -- and they may meet then
-pub together_meets : (trees : List Tree) (n : ℕ) (f : Finding) (a : Option (Bor Answer)) (o : Bor Answer) (b : BreakingJournal) →
+pub together_meets : (is_stack : Bool) (trees : List Tree) (n : ℕ) (f : Finding) (a : Option (Bor Answer)) (o : Bor Answer)
+    (b : BreakingJournal) →
     a ≡ Some o → o.now ≡ Breaks b →
-    IsTogetherBy trees n f a → MayMeet trees n
-together_meets trees n f a o b there is together = may_of trees n f o.now b is (subst (IsTogetherBy trees n f) there together)
+    IsTogetherBy is_stack trees n f a → MayMeet is_stack trees n
+together_meets is_stack trees n f a o b there is together = may_of is_stack trees n f o.now b is (subst (IsTogetherBy is_stack trees n f)
+    there together)
 
 -- what stands behind the last one
 abbrev pub nothing : Suspect

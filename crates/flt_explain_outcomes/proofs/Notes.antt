@@ -1,5 +1,5 @@
 -- The notes of a text, one behind the other, and those of several texts.
-use Rattle.std.proofs.Common.{◌≡◌, ◌<◌, ◌+◌, ℕ, List, [], ◌∷◌, ◌++◌, IfOk, IfSome, Option, Some, None, Result, Ok, Err}
+use Rattle.std.proofs.Common.{◌≡◌, ◌<◌, ◌+◌, ℕ, Bool, List, [], ◌∷◌, ◌++◌, IfOk, IfSome, Option, Some, None, Result, Ok, Err}
 use Rattle.std.proofs.Common.{All, ap, arith, get_or, length, map, refl, subst, sym, take, ◌∙◌}
 use Rattle.std.proofs.lemmas.List.{append-nil, take_more}
 use Rattle.std.proofs.lemmas.List.Elements.{All-nil, All-cons, All-head, All-tail}
@@ -41,9 +41,10 @@ next_reported reported i r old new n h is are own added =
     ∙ ap (λ x. take i reported ++ x ∷ []) (own ∙ is) ∙ sym (take_more reported i r h)
 
 -- one more note leaves the notes of what is known
-pub notes_more : (trees : List Tree) (k : ParsedText) (old new : List Note) (n : Note) → HasNotes trees k old → IsNotedOf trees k old n →
-    new ≡ old ++ n ∷ [] → HasNotes trees k new
-notes_more trees k old new n notes is added = rw added (one_more notes is)
+pub notes_more : (is_stack : Bool) (trees : List Tree) (k : ParsedText) (old new : List Note) (n : Note) →
+    HasNotes is_stack trees k old → IsNotedOf is_stack trees k old n →
+    new ≡ old ++ n ∷ [] → HasNotes is_stack trees k new
+notes_more is_stack trees k old new n notes is added = rw added (one_more notes is)
 
 -- what holds of some, and of one more
 pub all_more : {A : Type 0} (P : A → Type 0) (old new : List A) (x : A) → All P old → P x → new ≡ old ++ x ∷ [] → All P new
@@ -71,18 +72,20 @@ numbers_same [] = refl
 numbers_same (n ∷ notes) = ap (λ ns. n.finding ∷ ns) (numbers_same notes)
 
 -- a note of each finding that is reported by itself
-pub all_notes : (trees : List Tree) (k : ParsedText) (r : ReportedFindings) (t : TextNotes) →
-    AreReportedBy k.graph.now k.found.now r.traces r.each → AreFirsts k.found.now (numbers_of r.each) → AreTextNotes trees k r.each t →
-    AreAllNotes trees k t.each
-all_notes trees k r t are firsts notes = record {
+pub all_notes : (is_stack : Bool) (trees : List Tree) (k : ParsedText) (r : ReportedFindings) (t : TextNotes) →
+    AreReportedBy k.graph.now k.found.now r.traces r.each → AreFirsts k.found.now (numbers_of r.each) →
+    AreTextNotes is_stack trees k r.each t →
+    AreAllNotes is_stack trees k t.each
+all_notes is_stack trees k r t are firsts notes = record {
   each = notes.noted;
   reported = record { traces = r.traces; are = rw notes.reported are };
   firsts = subst (AreFirsts k.found.now) (numbers_same t.each) (rw notes.reported firsts);
 }
 
 -- there is none where nothing is found
-pub no_notes : (trees : List Tree) (k : ParsedText) (notes : List Note) → k.found.now ≡ [] → notes ≡ [] → AreAllNotes trees k notes
-no_notes trees k notes none unnoted = rw (none, unnoted) (record {
+pub no_notes : (is_stack : Bool) (trees : List Tree) (k : ParsedText) (notes : List Note) → k.found.now ≡ [] → notes ≡ [] →
+    AreAllNotes is_stack trees k notes
+no_notes is_stack trees k notes none unnoted = rw (none, unnoted) (record {
   each = no_note;
   reported = record {
     traces = record { shown = []; groups = [] };
@@ -92,9 +95,10 @@ no_notes trees k notes none unnoted = rw (none, unnoted) (record {
 })
 
 -- these are the notes of a text that parses
-pub notes_are : (trees : List Tree) (k : ParsedText) (notes : List Note) → IsParsed trees k → AreAllNotes trees k notes →
-    AreNotesOf trees k.source.text.now k.place notes
-notes_are trees k notes is all = record {
+pub notes_are : (is_stack : Bool) (trees : List Tree) (k : ParsedText) (notes : List Note) → IsParsed trees k →
+    AreAllNotes is_stack trees k notes →
+    AreNotesOf is_stack trees k.source.text.now k.place notes
+notes_are is_stack trees k notes is all = record {
   tree = k.tree.now;
   own = is.own;
   graph = k.graph.now;
@@ -106,11 +110,12 @@ notes_are trees k notes is all = record {
 }
 
 -- the same where they may be refused
-pub notes_are_of : {V : Type 0} (notes : V → List Note) (trees : List Tree) (k : ParsedText) (result : Result V AllocError) →
-    IsParsed trees k → IfOk result (λ v. AreAllNotes trees k (notes v)) →
-    IfOk result (λ v. AreNotesOf trees k.source.text.now k.place (notes v))
-notes_are_of notes trees k (Ok v) is all = notes_are trees k (notes v) is all
-notes_are_of notes trees k (Err e) is all = tt
+pub notes_are_of : {V : Type 0} (notes : V → List Note) (is_stack : Bool) (trees : List Tree) (k : ParsedText)
+    (result : Result V AllocError) →
+    IsParsed trees k → IfOk result (λ v. AreAllNotes is_stack trees k (notes v)) →
+    IfOk result (λ v. AreNotesOf is_stack trees k.source.text.now k.place (notes v))
+notes_are_of notes is_stack trees k (Ok v) is all = notes_are is_stack trees k (notes v) is all
+notes_are_of notes is_stack trees k (Err e) is all = tt
 
 -- a list that isn't found to have anything has nothing
 pub none_found : (found : List Finding) → length found < 1 → found ≡ []
@@ -120,26 +125,28 @@ none_found (f ∷ found) few = absurd (omega (arith, few))
 -- ---- of several texts
 
 -- the notes of a text more
-pub text_more : (trees : List Tree) (place : ℕ) (ts : List Text) (notes : List Note) (text : Text) (r : Reading) (own : List Note) →
-    AreNotesIn trees place ts notes → IsReading trees text r → IsPlaced place r → AreNotesFor trees text r own →
-    AreNotesIn trees (place + known r) (ts ++ text ∷ []) (notes ++ own)
-text_more trees place ts notes text (Unread f) own are is placed none =
+pub text_more : (is_stack : Bool) (trees : List Tree) (place : ℕ) (ts : List Text) (notes : List Note) (text : Text) (r : Reading)
+    (own : List Note) →
+    AreNotesIn is_stack trees place ts notes → IsReading trees text r → IsPlaced place r → AreNotesFor is_stack trees text r own →
+    AreNotesIn is_stack trees (place + known r) (ts ++ text ∷ []) (notes ++ own)
+text_more is_stack trees place ts notes text (Unread f) own are is placed none =
     let same : place + 0 ≡ place = omega arith in rw (same, none, append-nil notes) (fails are is.fault)
-text_more trees place ts notes text (Other kind) own are is placed none =
+text_more is_stack trees place ts notes text (Other kind) own are is placed none =
     let same : place + 0 ≡ place = omega arith in rw (same, none, append-nil notes) (fails are is.unread)
-text_more trees place ts notes text (Known at) own are is placed its =
-    parses are (subst (λ n. AreNotesOf trees text n own) placed its)
+text_more is_stack trees place ts notes text (Known at) own are is placed its =
+    parses are (subst (λ n. AreNotesOf is_stack trees text n own) placed its)
 
 -- the same of one text more that is studied
-pub one_text_more : (trees : List Tree) (each : List StudiedText) (i : ℕ) (s : StudiedText) (old own new : List Note) →
+pub one_text_more : (is_stack : Bool) (trees : List Tree) (each : List StudiedText) (i : ℕ) (s : StudiedText) (old own new : List Note) →
     AreStudied trees 0 each → i < length each → s ≡ get_or each i s →
-    AreNotesIn trees (known_in (take i each)) (texts_read (take i each)) old → AreNotesFor trees s.source.text.now s.reading own →
-    new ≡ old ++ own → AreNotesIn trees (known_in (take (i + 1) each)) (texts_read (take (i + 1) each)) new
-one_text_more trees each i s old own new studied h is are its added =
+    AreNotesIn is_stack trees (known_in (take i each)) (texts_read (take i each)) old →
+    AreNotesFor is_stack trees s.source.text.now s.reading own →
+    new ≡ old ++ own → AreNotesIn is_stack trees (known_in (take (i + 1) each)) (texts_read (take (i + 1) each)) new
+one_text_more is_stack trees each i s old own new studied h is are its added =
     let here : IsStudied trees s = subst (IsStudied trees) (sym is) (studied_at trees 0 each i s studied h) in
     let first : 0 + known_in (take i each) ≡ known_in (take i each) = omega arith in
     let placed : IsPlaced (known_in (take i each)) s.reading =
     subst (λ (x : StudiedText). IsPlaced (known_in (take i each)) x.reading) (sym is)
     (subst (λ n. IsPlaced n (get_or each i s).reading) first (placed_at trees 0 each i s studied h)) in
     rw (known_taken each i s h is, texts_taken each i s h is, added)
-    (text_more trees (known_in (take i each)) (texts_read (take i each)) old s.source.text.now s.reading own are here placed its)
+    (text_more is_stack trees (known_in (take i each)) (texts_read (take i each)) old s.source.text.now s.reading own are here placed its)

@@ -1,6 +1,6 @@
 -- What comes of findings in runs, with one more callback and without it.
-use Rattle.std.proofs.Common.{◌≡◌, ◌<◌, ℕ, zero, suc, false, List, [], ◌∷◌, ◌++◌, Option}
-use Rattle.std.proofs.Common.{Some, None, IfSome, sym, ap, arith, subst, ◌∙◌, ◌+◌}
+use Rattle.std.proofs.Common.{◌≡◌, ◌<◌, ℕ, zero, suc, Bool, false, List, [], ◌∷◌, ◌++◌, Option}
+use Rattle.std.proofs.Common.{Some, None, IfSome, refl, sym, ap, arith, subst, ◌∙◌, ◌+◌}
 use Rattle.std.proofs.Common.{All, append_assoc, drop, get_or, length, length-drop, reverse, slice_get, string_bytes, take}
 use Rattle.std.specs.Prelude.{◌≢◌}
 use Rattle.std.proofs.lemmas.List.{drop_more, reverse-append, take_more}
@@ -22,7 +22,7 @@ use Rattle.flt_explain_ways.specs.Reported.{numbers_of}
 use Rattle.flt_explain_ways.specs.declared.reported.ReportedFinding.{ReportedFinding}
 use Rattle.flt_search.specs.Found.{IsFound}
 use Rattle.flt_search.specs.declared.judging.BreakingJournal.{BreakingJournal}
-use Rattle.flt_explain_outcomes.specs.Schedules.{AreOutcomes, IsSchedule, IsScheduled}
+use Rattle.flt_explain_outcomes.specs.Schedules.{AreOutcomes, IsSchedule, IsScheduled, only}
 use Rattle.flt_explain_outcomes.specs.Violations.{violations_of}
 use Rattle.flt_explain_outcomes.specs.declared.schedules.Outcome.{Outcome}
 use Rattle.flt_explain_outcomes.specs.declared.schedules.Schedule.{Schedule}
@@ -34,7 +34,7 @@ use Rattle.flt_explain_outcomes.specs.Again.{IsAgainBy, IsAlone, IsOutcomeAgain,
 use Rattle.flt_explain_outcomes.specs.Again.{IsSetting, IsSuspectAgain}
 use Rattle.flt_explain_outcomes.specs.Setters.{GoesOn, IsOfJudged, IsSetter, ended, line_ends}
 use Rattle.flt_model.specs.declared.verdict.Violation.{Violation}
-use Rattle.flt_explain_outcomes.specs.Noted.{IsAgain, IsAlso, IsBrokenBy, IsNear, schedule_of}
+use Rattle.flt_explain_outcomes.specs.Noted.{IsAgain, IsAlso, IsBrokenBy, IsNear, own_of, schedule_of}
 use Rattle.flt_explain_outcomes.specs.declared.noted.Note.{Note}
 use Rattle.flt_explain_outcomes.specs.Noting.{IsOutcomeOf, IsSuspectOf}
 use Rattle.flt_explain_outcomes.specs.declared.again.Setting.{Setting}
@@ -43,23 +43,30 @@ use Rattle.flt_explain_outcomes.specs.declared.noted.SetterOutcome.TheVariants.{
 use Rattle.flt_explain_outcomes.specs.declared.noting.ParsedText.{ParsedText}
 
 -- what comes of suspects is what comes of the findings that are reported
-pub outcomes_of : (trees : List Tree) (k : ParsedText) (g : Graph) (reported : List ReportedFinding) (found : List Suspect)
+pub outcomes_of : (is_stack : Bool) (trees : List Tree) (k : ParsedText) (g : Graph) (reported : List ReportedFinding)
+    (found : List Suspect)
     (all : List Outcome) →
-    g ≡ k.graph.now → AllZip (IsSuspectOf k.found.now) reported found → AreOutcomes trees k.place g found all →
-    AllZip (IsOutcomeOf trees k) reported all
-outcomes_of trees k g [] [] [] same suspects are = tt
-outcomes_of trees k g [] [] (o ∷ all) same suspects are = absurd are
-outcomes_of trees k g [] (s ∷ found) all same suspects are = absurd suspects
-outcomes_of trees k g (r ∷ reported) [] all same suspects are = absurd suspects
-outcomes_of trees k g (r ∷ reported) (s ∷ found) [] same suspects are = absurd are
-outcomes_of trees k g (r ∷ reported) (s ∷ found) (o ∷ all) same suspects are =
-    let first : IsOutcomeOf trees k r o = record {
+    g ≡ k.graph.now → AllZip (IsSuspectOf k.found.now) reported found → AreOutcomes is_stack trees k.place g found all →
+    AllZip (IsOutcomeOf is_stack trees k) reported all
+outcomes_of is_stack trees k g [] [] [] same suspects are = tt
+outcomes_of is_stack trees k g [] [] (o ∷ all) same suspects are = absurd are
+outcomes_of is_stack trees k g [] (s ∷ found) all same suspects are = absurd suspects
+outcomes_of is_stack trees k g (r ∷ reported) [] all same suspects are = absurd suspects
+outcomes_of is_stack trees k g (r ∷ reported) (s ∷ found) [] same suspects are = absurd are
+outcomes_of is_stack trees k g (r ∷ reported) (s ∷ found) (o ∷ all) same suspects are =
+    let first : IsOutcomeOf is_stack trees k r o = record {
       number = are.0.number ∙ suspects.0.number;
       finding = s.finding;
       numbered = suspects.0.is;
-      scheduled = subst (λ h. IsScheduled trees k.place h s.finding o.scheduled) same are.0.scheduled;
+      scheduled = subst (λ h. IsScheduled is_stack trees k.place h s.finding o.scheduled) same are.0.scheduled;
     } in
-    (first, outcomes_of trees k g reported found all same suspects.1 are.1)
+    (first, outcomes_of is_stack trees k g reported found all same suspects.1 are.1)
+
+-- where no stack is asked for, what comes of a finding is known of runs of its filter alone
+pub alone_without_stack : (trees : List Tree) (n : ℕ) (g : Graph) (f : Finding) (s : JointOutcome) → IsScheduled false trees n g f s →
+    own_of trees n s ≡ only trees n
+alone_without_stack trees n g f (Alone a) is = refl
+alone_without_stack trees n g f (Together a) is = absurd (cc is.1.asked)
 
 found_by : (p : List Filter) (cs : List Callback) (g : Graph) (f : Finding) (a : Schedule) (b : BreakingJournal) →
     IsSchedule p cs g f a → a ≡ Breaks b →
@@ -68,7 +75,7 @@ found_by p cs g f a b is same = (subst (λ x. IsSchedule p cs g f x) same is).0
 
 -- in runs of one filter alone
 found_alone : (tree : Tree) (g : Graph) (f : Finding) (s : JointOutcome) (b : BreakingJournal) →
-    IsScheduled (tree ∷ []) 0 g f s → schedule_of s ≡ Breaks b →
+    IsScheduled false (tree ∷ []) 0 g f s → schedule_of s ≡ Breaks b →
     IsFound (tree.filter ∷ []) (violations_of f.rule) b
 found_alone tree g f (Together a) b is same = found_by (tree.filter ∷ []) _ g f a b is.0 same
 found_alone tree g f (Alone a) b is same = found_by (tree.filter ∷ []) _ g f a b is same
@@ -78,7 +85,7 @@ same_finding found n f h one other = cc
 
 outcome_again : (tree : Tree) (g : Graph) (found : List Finding) (s : Suspect) (o : Outcome) →
     IsSuspectAgain found s → o.number ≡ s.number →
-    IsScheduled (tree ∷ []) 0 g s.finding o.scheduled → IsOutcomeAgain (tree ∷ []) found o
+    IsScheduled false (tree ∷ []) 0 g s.finding o.scheduled → IsOutcomeAgain (tree ∷ []) found o
 outcome_again tree g found s o suspect number scheduled =
     λ f b numbered breaks.
     let same : suspect.finding ≡ f = same_finding found s.number suspect.finding f suspect.numbered
@@ -87,7 +94,7 @@ outcome_again tree g found s o suspect number scheduled =
     (found_alone tree g s.finding o.scheduled b scheduled breaks)
 
 each_again : (tree : Tree) (g : Graph) (found : List Finding) (suspects : List Suspect) (all : List Outcome) →
-    All (IsSuspectAgain found) suspects → AreOutcomes (tree ∷ []) 0 g suspects all → All (IsOutcomeAgain (tree ∷ []) found) all
+    All (IsSuspectAgain found) suspects → AreOutcomes false (tree ∷ []) 0 g suspects all → All (IsOutcomeAgain (tree ∷ []) found) all
 each_again tree g found [] [] those are = All-nil (IsOutcomeAgain (tree ∷ []) found)
 each_again tree g found [] (o ∷ all) those are = absurd are
 each_again tree g found (s ∷ suspects) [] those are = absurd are
@@ -98,10 +105,10 @@ each_again tree g found (s ∷ suspects) (o ∷ all) those are =
 
 -- what comes of findings in runs of the text with one more callback
 pub outcomes_again : (trees : List Tree) (g : Graph) (found : List Finding) (suspects : List Suspect) (all : List Outcome) → IsAlone trees →
-    All (IsSuspectAgain found) suspects → AreOutcomes trees 0 g suspects all → All (IsOutcomeAgain trees found) all
+    All (IsSuspectAgain found) suspects → AreOutcomes false trees 0 g suspects all → All (IsOutcomeAgain trees found) all
 outcomes_again trees g found suspects all alone those are =
     subst (λ ts. All (IsOutcomeAgain ts found) all) (sym alone.is)
-    (each_again alone.tree g found suspects all those (subst (λ ts. AreOutcomes ts 0 g suspects all) alone.is are))
+    (each_again alone.tree g found suspects all those (subst (λ ts. AreOutcomes false ts 0 g suspects all) alone.is are))
 
 all_at : (P : Outcome → Type 0) (all : List Outcome) (n : ℕ) (o : Outcome) → All P all → slice_get all n ≡ Some o → P o
 all_at P [] n o each at = absurd (cc at)
@@ -180,24 +187,26 @@ setter_is text whole added line (Found tree graph found) (Some s) on ends counte
 }
 
 -- something came of each finding that is reported
-pub some_left : (trees : List Tree) (k : ParsedText) (reported : List ReportedFinding) (i : ℕ) (all : List Outcome) → i < length reported →
-    AllZip (IsOutcomeOf trees k) (drop i reported) (reverse all) → all ≢ []
-some_left trees k reported i [] h are none =
-    let long = AllZip-long (IsOutcomeOf trees k) (drop i reported) [] are in
+pub some_left : (is_stack : Bool) (trees : List Tree) (k : ParsedText) (reported : List ReportedFinding) (i : ℕ) (all : List Outcome) →
+    i < length reported →
+    AllZip (IsOutcomeOf is_stack trees k) (drop i reported) (reverse all) → all ≢ []
+some_left is_stack trees k reported i [] h are none =
+    let long = AllZip-long (IsOutcomeOf is_stack trees k) (drop i reported) [] are in
     let left = length-drop i reported in omega (arith, h, long, left)
-some_left trees k reported i (o ∷ all) h are none = cc
+some_left is_stack trees k reported i (o ∷ all) h are none = cc
 
 -- the last outcome that is left is that of the next one
-pub next_outcome : (trees : List Tree) (k : ParsedText) (reported : List ReportedFinding) (i : ℕ) (r : ReportedFinding)
+pub next_outcome : (is_stack : Bool) (trees : List Tree) (k : ParsedText) (reported : List ReportedFinding) (i : ℕ) (r : ReportedFinding)
     (old rest : List Outcome) (o : Outcome) →
-    i < length reported → r ≡ get_or reported i r → AllZip (IsOutcomeOf trees k) (drop i reported) (reverse old) → old ≡ rest ++ o ∷ [] →
-    IsOutcomeOf trees k r o × AllZip (IsOutcomeOf trees k) (drop (i + 1) reported) (reverse rest)
-next_outcome trees k reported i r old rest o h is are last =
+    i < length reported → r ≡ get_or reported i r → AllZip (IsOutcomeOf is_stack trees k) (drop i reported) (reverse old) →
+    old ≡ rest ++ o ∷ [] →
+    IsOutcomeOf is_stack trees k r o × AllZip (IsOutcomeOf is_stack trees k) (drop (i + 1) reported) (reverse rest)
+next_outcome is_stack trees k reported i r old rest o h is are last =
     let front : drop i reported ≡ r ∷ drop (i + 1) reported =
     drop_more reported i r h ∙ ap (λ x. x ∷ drop (i + 1) reported) (sym is) in
     let back : reverse old ≡ o ∷ reverse rest = ap reverse last ∙ reverse-append rest (o ∷ []) in
-    subst (λ os. AllZip (IsOutcomeOf trees k) (r ∷ drop (i + 1) reported) os) back
-    (subst (λ rs. AllZip (IsOutcomeOf trees k) rs (reverse old)) front are)
+    subst (λ os. AllZip (IsOutcomeOf is_stack trees k) (r ∷ drop (i + 1) reported) os) back
+    (subst (λ rs. AllZip (IsOutcomeOf is_stack trees k) rs (reverse old)) front are)
 
 -- the numbers of findings that are reported
 pub within_all : (count : ℕ) (reported : List ReportedFinding) → All (λ n. n < count) (numbers_of reported) →

@@ -1,5 +1,5 @@
 -- What comes of the findings of texts in runs. This project's own definitions.
-use Rattle.std.specs.Prelude.{◌≡◌, ℕ, ◌+◌, Contains, IfSome, List, [], ◌∷◌, ◌++◌, Option, Some, None, map, slice_get, slice_range}
+use Rattle.std.specs.Prelude.{◌≡◌, ℕ, ◌+◌, Bool, Contains, IfSome, List, [], ◌∷◌, ◌++◌, Option, Some, None, map, slice_get, slice_range}
 use Rattle.flt_syntax.specs.TextFails.{Fails}
 use Rattle.flt_syntax.specs.declared.fault.SyntaxFault.{SyntaxFault}
 use Rattle.flt_places.specs.declared.files.Files.{Files}
@@ -105,23 +105,25 @@ IsAgain text finding RunsNowhere = Unit {0}
 
 -- a note, behind earlier ones of the same text: what comes of the finding of its number. The text is that of the tree of this place, and
 -- has these points and findings
-pub record IsNoted (trees : List Tree) (text : Text) (place : ℕ) (graph : Graph) (found : List Finding) (earlier : List Note)
+pub record IsNoted (is_stack : Bool) (trees : List Tree) (text : Text) (place : ℕ) (graph : Graph) (found : List Finding)
+    (earlier : List Note)
     (n : Note) : Type 0 where
   pub filter : n.filter ≡ place
   pub finding : Finding
   pub numbered : slice_get found n.finding ≡ Some finding
   pub callback : n.place ≡ place_at graph finding.callback
-  pub scheduled : IsScheduled trees place graph finding n.scheduled
+  pub scheduled : IsScheduled is_stack trees place graph finding n.scheduled
   pub also : IfSome n.also (IsAlso trees place found earlier finding)
   pub again : IfSome n.again (IsAgain text finding)
 
 -- ---- the notes of texts
 
 -- notes of a text, one behind the other
-pub data AreNoted (trees : List Tree) (text : Text) (place : ℕ) (graph : Graph) (found : List Finding) : List Note → Type 0 where
-  no_note : AreNoted trees text place graph found []
-  one_more : {ns : List Note} {n : Note} → AreNoted trees text place graph found ns → IsNoted trees text place graph found ns n →
-      AreNoted trees text place graph found (ns ++ n ∷ [])
+pub data AreNoted (is_stack : Bool) (trees : List Tree) (text : Text) (place : ℕ) (graph : Graph) (found : List Finding)
+    : List Note → Type 0 where
+  no_note : AreNoted is_stack trees text place graph found []
+  one_more : {ns : List Note} {n : Note} → AreNoted is_stack trees text place graph found ns →
+      IsNoted is_stack trees text place graph found ns n → AreNoted is_stack trees text place graph found (ns ++ n ∷ [])
 
 -- the numbers of the findings that are noted
 abbrev pub numbers_in : List Note → List ℕ
@@ -133,27 +135,27 @@ reported_in n = record { number = n.finding; is_behind = n.is_behind }
 
 -- the notes of a text that parses, whose tree is that of this place: one of each finding that is reported by itself, in their order. Their
 -- numbers rise, and each finding of the text is akin to one that is noted
-pub record AreNotesOf (trees : List Tree) (text : Text) (place : ℕ) (notes : List Note) : Type 0 where
+pub record AreNotesOf (is_stack : Bool) (trees : List Tree) (text : Text) (place : ℕ) (notes : List Note) : Type 0 where
   pub tree : Tree
   pub own : slice_get trees place ≡ Some tree
   pub graph : Graph
   pub found : List Finding
   pub known : IsKnown text tree graph found
-  pub each : AreNoted trees text place graph found notes
+  pub each : AreNoted is_stack trees text place graph found notes
   pub reported : AreReported graph found (map reported_in notes)
   pub firsts : AreFirsts found (numbers_in notes)
 
 -- the notes of texts, so many of which parse: one text's behind the other's, and none of one that doesn't parse
-pub data AreNotesIn (trees : List Tree) : ℕ → List Text → List Note → Type 0 where
-  no_text : AreNotesIn trees 0 [] []
-  fails : {place : ℕ} {ts : List Text} {notes : List Note} {t : Text} {e : SyntaxFault} → AreNotesIn trees place ts notes → Fails t e →
-      AreNotesIn trees place (ts ++ t ∷ []) notes
-  parses : {place : ℕ} {ts : List Text} {notes own : List Note} {t : Text} → AreNotesIn trees place ts notes →
-      AreNotesOf trees t place own → AreNotesIn trees (place + 1) (ts ++ t ∷ []) (notes ++ own)
+pub data AreNotesIn (is_stack : Bool) (trees : List Tree) : ℕ → List Text → List Note → Type 0 where
+  no_text : AreNotesIn is_stack trees 0 [] []
+  fails : {place : ℕ} {ts : List Text} {notes : List Note} {t : Text} {e : SyntaxFault} → AreNotesIn is_stack trees place ts notes →
+      Fails t e → AreNotesIn is_stack trees place (ts ++ t ∷ []) notes
+  parses : {place : ℕ} {ts : List Text} {notes own : List Note} {t : Text} → AreNotesIn is_stack trees place ts notes →
+      AreNotesOf is_stack trees t place own → AreNotesIn is_stack trees (place + 1) (ts ++ t ∷ []) (notes ++ own)
 
--- the same, where the trees are those of the texts that parse
-pub record AreNotes (texts : List Text) (notes : List Note) : Type 0 where
+-- the same, where the trees are those of the texts that parse: these texts are those of one stack, or each is on its own
+pub record AreNotes (is_stack : Bool) (texts : List Text) (notes : List Note) : Type 0 where
   pub trees : List Tree
   pub parsed : AreParsed texts (filters_of trees)
   pub place : ℕ
-  pub are : AreNotesIn trees place texts notes
+  pub are : AreNotesIn is_stack trees place texts notes

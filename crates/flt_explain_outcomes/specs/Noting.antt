@@ -1,5 +1,5 @@
 -- How notes are made. This project's own definitions.
-use Rattle.std.specs.Prelude.{◌≡◌, ℕ, All, List, [], IfSome, Option, None, Some, map, slice_get}
+use Rattle.std.specs.Prelude.{◌≡◌, ℕ, All, Bool, List, [], IfSome, Option, None, Some, map, slice_get}
 use Rattle.flt_tree.specs.Names.{Text}
 use Rattle.flt_tree.specs.declared.tree.Tree.{Tree}
 use Rattle.flt_explain.specs.declared.finding.Finding.{Finding}
@@ -33,25 +33,25 @@ pub record IsSuspectOf (found : List Finding) (r : ReportedFinding) (s : Suspect
   pub is : slice_get found r.number ≡ Some s.finding
 
 -- what comes of the finding that is reported
-pub record IsOutcomeOf (trees : List Tree) (k : ParsedText) (r : ReportedFinding) (o : Outcome) : Type 0 where
+pub record IsOutcomeOf (is_stack : Bool) (trees : List Tree) (k : ParsedText) (r : ReportedFinding) (o : Outcome) : Type 0 where
   pub number : o.number ≡ r.number
   pub finding : Finding
   pub numbered : slice_get k.found.now r.number ≡ Some finding
-  pub scheduled : IsScheduled trees k.place k.graph.now finding o.scheduled
+  pub scheduled : IsScheduled is_stack trees k.place k.graph.now finding o.scheduled
 
 -- what comes of the finding of a number where one more callback stands behind the text
 abbrev pub IsAgainOf : ParsedText → ℕ → SetterOutcome → Type 0
 IsAgainOf k number a = (f : Finding) → slice_get k.found.now number ≡ Some f → IsAgain k.source.text.now f a
 
 -- a note of a finding of a text, behind earlier ones
-abbrev pub IsNotedOf : List Tree → ParsedText → List Note → Note → Type 0
-IsNotedOf trees k earlier n = IsNoted trees k.source.text.now k.place k.graph.now k.found.now earlier n
+abbrev pub IsNotedOf : Bool → List Tree → ParsedText → List Note → Note → Type 0
+IsNotedOf is_stack trees k earlier n = IsNoted is_stack trees k.source.text.now k.place k.graph.now k.found.now earlier n
 
 -- ---- the notes of a text
 
 -- the notes are of findings of a text
-abbrev pub HasNotes : List Tree → ParsedText → List Note → Type 0
-HasNotes trees k notes = AreNoted trees k.source.text.now k.place k.graph.now k.found.now notes
+abbrev pub HasNotes : Bool → List Tree → ParsedText → List Note → Type 0
+HasNotes is_stack trees k notes = AreNoted is_stack trees k.source.text.now k.place k.graph.now k.found.now notes
 
 -- the callback of a setting stands behind a text; without one a note says nothing of it
 pub record IsSettingOf (text : Text) (setting : Option Setting) (n : Note) : Type 0 where
@@ -64,18 +64,19 @@ pub record IsSettingFor (text : Text) (setting : Option Setting) (notes : List N
   pub none : setting ≡ None → All (λ (n : Note). n.again ≡ None) notes
 
 -- a note of each finding that is reported, in their order
-pub record AreTextNotes (trees : List Tree) (k : ParsedText) (all : List ReportedFinding) (t : TextNotes) : Type 0 where
-  pub noted : HasNotes trees k t.each
+pub record AreTextNotes (is_stack : Bool) (trees : List Tree) (k : ParsedText) (all : List ReportedFinding) (t : TextNotes)
+    : Type 0 where
+  pub noted : HasNotes is_stack trees k t.each
   pub reported : map reported_in t.each ≡ all
   pub setting : IsSettingFor k.source.text.now t.setting t.each
 
 -- a note of each finding of a text that is reported by itself, in their order; each other one is akin to one of these
-pub record AreAllNotes (trees : List Tree) (k : ParsedText) (notes : List Note) : Type 0 where
-  pub each : HasNotes trees k notes
+pub record AreAllNotes (is_stack : Bool) (trees : List Tree) (k : ParsedText) (notes : List Note) : Type 0 where
+  pub each : HasNotes is_stack trees k notes
   pub reported : AreReported k.graph.now k.found.now (map reported_in notes)
   pub firsts : AreFirsts k.found.now (numbers_in notes)
 
 -- the notes are those of a text; none where it doesn't parse
-abbrev pub AreNotesFor : List Tree → Text → Reading → List Note → Type 0
-AreNotesFor trees text (reading.Known place) notes = AreNotesOf trees text place notes
-AreNotesFor trees text _ notes = notes ≡ []
+abbrev pub AreNotesFor : Bool → List Tree → Text → Reading → List Note → Type 0
+AreNotesFor is_stack trees text (reading.Known place) notes = AreNotesOf is_stack trees text place notes
+AreNotesFor is_stack trees text _ notes = notes ≡ []

@@ -76,35 +76,38 @@ IsStartedOf cs started = IfSome started (λ (s : Bor (List Bool)). IsClosed cs (
 abbrev pub only : List Tree → ℕ → List Tree
 only trees n = slice_range trees n (n + 1)
 
--- the filter of a number meets another one, and all can be there at once: they are 16 at most, and no two have one altitude
-pub record MayMeet (trees : List Tree) (n : ℕ) : Type 0 where
+-- runs of all filters are looked for only where a stack is asked for, the filter of a number meets another one, and all can be there at
+-- once: they are 16 at most, and no two have one altitude
+pub record MayMeet (is_stack : Bool) (trees : List Tree) (n : ℕ) : Type 0 where
+  pub asked : is_stack ≡ true
   pub few : length trees ≤ 16
   pub meets : meets_others trees n ≡ true
   pub distinct : HasDistinctAltitudes (filters_of trees)
 
 -- what is found in runs of all filters
-abbrev pub IsTogetherFor : List Tree → ℕ → Finding → Answer → Type 0
-IsTogetherFor trees n f (answer.Breaks b) = IsFound (filters_of trees) (violations_of f.rule) b × MayMeet trees n
-IsTogetherFor trees n f _ = Unit {0}
+abbrev pub IsTogetherFor : Bool → List Tree → ℕ → Finding → Answer → Type 0
+IsTogetherFor is_stack trees n f (answer.Breaks b) = IsFound (filters_of trees) (violations_of f.rule) b × MayMeet is_stack trees n
+IsTogetherFor is_stack trees n f _ = Unit {0}
 
-abbrev pub IsTogetherBy : List Tree → ℕ → Finding → Option (Bor Answer) → Type 0
-IsTogetherBy trees n f a = IfSome a (λ (b : Bor Answer). IsTogetherFor trees n f b.now)
+abbrev pub IsTogetherBy : Bool → List Tree → ℕ → Finding → Option (Bor Answer) → Type 0
+IsTogetherBy is_stack trees n f a = IfSome a (λ (b : Bor Answer). IsTogetherFor is_stack trees n f b.now)
 
 -- the same of as many findings as have an answer
-abbrev pub AreTogether : List Tree → ℕ → List Suspect → List Answer → Type 0
-AreTogether trees n found answers =
-    (k : ℕ) (s : Suspect) → slice_get found k ≡ Some s → IfSome (slice_get answers k) (IsTogetherFor trees n s.finding)
+abbrev pub AreTogether : Bool → List Tree → ℕ → List Suspect → List Answer → Type 0
+AreTogether is_stack trees n found answers =
+    (k : ℕ) (s : Suspect) → slice_get found k ≡ Some s → IfSome (slice_get answers k) (IsTogetherFor is_stack trees n s.finding)
 
--- what comes of a finding of the filter of a number, which has these points: it holds of the filter alone, or of all of them where those
--- may meet
-abbrev pub IsScheduled : List Tree → ℕ → Graph → Finding → JointOutcome → Type 0
-IsScheduled trees n g f (scheduled.Alone a) = IsSchedule (filters_of (only trees n)) (callbacks_of trees n) g f a
-IsScheduled trees n g f (scheduled.Together a) = IsSchedule (filters_of trees) (callbacks_of trees n) g f a × MayMeet trees n
+-- what comes of a finding of the filter of a number, which has these points: it holds of the filter alone, or of all of them where a
+-- stack is asked for and those may meet
+abbrev pub IsScheduled : Bool → List Tree → ℕ → Graph → Finding → JointOutcome → Type 0
+IsScheduled is_stack trees n g f (scheduled.Alone a) = IsSchedule (filters_of (only trees n)) (callbacks_of trees n) g f a
+IsScheduled is_stack trees n g f (scheduled.Together a) =
+    IsSchedule (filters_of trees) (callbacks_of trees n) g f a × MayMeet is_stack trees n
 
-pub record IsOutcome (trees : List Tree) (n : ℕ) (g : Graph) (s : Suspect) (o : Outcome) : Type 0 where
+pub record IsOutcome (is_stack : Bool) (trees : List Tree) (n : ℕ) (g : Graph) (s : Suspect) (o : Outcome) : Type 0 where
   pub number : o.number ≡ s.number
-  pub scheduled : IsScheduled trees n g s.finding o.scheduled
+  pub scheduled : IsScheduled is_stack trees n g s.finding o.scheduled
 
 -- each finding has what comes of it, in their order
-abbrev pub AreOutcomes : List Tree → ℕ → Graph → List Suspect → List Outcome → Type 0
-AreOutcomes trees n g found all = AllZip (IsOutcome trees n g) found all
+abbrev pub AreOutcomes : Bool → List Tree → ℕ → Graph → List Suspect → List Outcome → Type 0
+AreOutcomes is_stack trees n g found all = AllZip (IsOutcome is_stack trees n g) found all

@@ -7,7 +7,7 @@ ghost use Rattle.flt_explain_outcomes.specs.Setters.{IsSetter};
 
 use crate::noted::{SetterOutcome, schedule_of};
 use crate::outlook::Outlook;
-use crate::schedules::{Outcome, Schedule, Suspect, Suspects, outcomes_among};
+use crate::schedules::{Outcome, RunSearch, Schedule, Suspect, Suspects, outcomes_among};
 use crate::setters::{Setter, is_same};
 use flt_explain::Finding;
 use flt_search::SearchWatch;
@@ -75,7 +75,11 @@ fn outcomes_of<W: SearchWatch>(
         outlook: &outlook,
         found: again.as_slice(),
     };
-    let all = outcomes_among(alloc, setter.trees.as_slice(), &suspects, states, watch)?;
+    let asked = RunSearch {
+        states,
+        is_stack: false,
+    };
+    let all = outcomes_among(alloc, setter.trees.as_slice(), &suspects, asked, watch)?;
     Ok(all)
 }
 

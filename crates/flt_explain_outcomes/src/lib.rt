@@ -3,8 +3,8 @@
 //! Finding runs: `violations` has the violations to which a broken rule leads, and `hand_over` finds out whether a callback is ever handed
 //! a context. `outlook` knows which findings no run reaches, since nothing starts their callback or nothing sets a context that is got
 //! before (`unset`); `reach` finds the possible states of a variable at each point of a text (`possible`), and checks that nothing leads
-//! out of them. `schedules` looks for runs with `flt_search`, of several filters at once and of the findings' filter alone, or says why
-//! there is none. `meeting` says which filters meet.
+//! out of them. `schedules` looks for runs with `flt_search`, of all filters of a stack at once and of the findings' filter alone, or says
+//! why there is none. `meeting` says which filters meet.
 //!
 //! Notes: each finding that is reported by itself has a note. `noted` is the outcome of a finding; `setters` adds a callback to a text that
 //! sets contexts which nothing in it sets, and `again` has the outcome of a finding then. `also` has the violation of a run that was shown
@@ -33,7 +33,9 @@ pub use noted::{Note, SetterOutcome, first_journal, own_files, own_trees, schedu
 pub use noting::{ParsedText, Stage, TextNotes, notes_on, tree_at};
 pub use outlook::Outlook;
 pub use readings::{Reading, Readings, StudiedText, read_all};
-pub use schedules::{JointOutcome, Outcome, Schedule, Suspect, Suspects, only, outcomes_among};
+pub use schedules::{
+    JointOutcome, Outcome, RunSearch, Schedule, Suspect, Suspects, only, outcomes_among,
+};
 pub use setters::Setter;
 pub use unset::Unset;
 pub use violations::violations_of;

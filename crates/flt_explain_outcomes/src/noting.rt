@@ -15,7 +15,9 @@ use crate::also::also_broken;
 use crate::noted::{Note, SetterOutcome, schedule_of};
 use crate::outlook::Outlook;
 use crate::readings::{Reading, StudiedText, read_all};
-use crate::schedules::{JointOutcome, Outcome, Schedule, Suspect, Suspects, outcomes_among};
+use crate::schedules::{
+    JointOutcome, Outcome, RunSearch, Schedule, Suspect, Suspects, outcomes_among,
+};
 use crate::setters::Setter;
 use flt_explain::{Finding, findings};
 use flt_explain_texts::Source;
@@ -27,14 +29,13 @@ use flt_tree::Tree;
 use sqlite_items::Items;
 use std::alloc::{AllocError, Global};
 
-/// The trees and the bound of the searches, which all notes share.
+/// The trees, and how runs are looked for, which all notes share.
 #[derive(Clone, Copy)]
 pub struct Stage<'a> {
     pub alloc: Global,
     /// The trees of the texts that parse.
     pub trees: &'a [Tree],
-    /// The greatest number of states from which the search for runs of a text continues.
-    pub states: u32,
+    pub search: RunSearch,
 }
 
 /// A text that parses: the number of its tree, its tree, its points and its findings.
@@ -111,7 +112,8 @@ impl Stage<'_> {
     ) -> Result<Vec<Outcome>, AllocError>
         requires same { outlook.now ≡ known.graph.now }
         requires within { All (λ r. r.number < length known.found.now) reported.now }
-        ensures { IfOk result (λ all. AllZip (spec.IsOutcomeOf self.now.trees.now known.entry) reported.now all.items) }
+        ensures { IfOk result (λ all. AllZip (spec.IsOutcomeOf self.now.search.is_stack self.now.trees.now known.entry) reported.now
+            all.items) }
     {
         let found = suspects_of(self.alloc, known.found, reported)?;
         let suspects = Suspects {
@@ -119,7 +121,7 @@ impl Stage<'_> {
             outlook,
             found: found.as_slice(),
         };
-        let outcomes = outcomes_among(self.alloc, self.trees, &suspects, self.states, watch)?;
+        let outcomes = outcomes_among(self.alloc, self.trees, &suspects, self.search, watch)?;
         Ok(outcomes)
     }
 
@@ -149,7 +151,7 @@ impl Stage<'_> {
                     text,
                     known.found,
                     outcomes,
-                    self.states,
+                    self.search.states,
                     watch,
                 )?;
                 Ok(Some(setting))
@@ -210,9 +212,9 @@ impl Stage<'_> {
         reported: ReportedFinding,
         outcome: Outcome,
     ) -> Result<Note, AllocError>
-        requires outcome { spec.IsOutcomeOf self.now.trees.now known reported outcome }
+        requires outcome { spec.IsOutcomeOf self.now.search.is_stack self.now.trees.now known reported outcome }
         requires setting { IfSome setting.now (IsSetting known.source.text.now known.found.now) }
-        ensures noted { IfOk result (spec.IsNotedOf self.now.trees.now known.entry earlier.now) }
+        ensures noted { IfOk result (spec.IsNotedOf self.now.search.is_stack self.now.trees.now known.entry earlier.now) }
         ensures reported { IfOk result (λ n. reported_in n ≡ reported) }
         ensures none { IfOk result (λ n. setting.now ≡ None → n.again ≡ None) }
     {
@@ -239,9 +241,10 @@ impl Stage<'_> {
         reported: &[ReportedFinding],
         outcomes: &mut Vec<Outcome>,
     ) -> Result<Items<Note>, AllocError>
-        requires outcomes { AllZip (spec.IsOutcomeOf self.now.trees.now known) reported.now (reverse outcomes.old.items) }
+        requires outcomes { AllZip (spec.IsOutcomeOf self.now.search.is_stack self.now.trees.now known) reported.now (reverse
+            outcomes.old.items) }
         requires setting { IfSome setting.now (IsSetting known.source.text.now known.found.now) }
-        ensures noted { IfOk result (λ each. spec.HasNotes self.now.trees.now known.entry each) }
+        ensures noted { IfOk result (λ each. spec.HasNotes self.now.search.is_stack self.now.trees.now known.entry each) }
         ensures reported { IfOk result (λ each. map reported_in each ≡ reported.now) }
         ensures none { IfOk result (λ each. setting.now ≡ None → All (λ n. n.again ≡ None) each) }
     {
@@ -266,7 +269,7 @@ impl Stage<'_> {
         watch: &mut W,
     ) -> Result<TextNotes, AllocError>
         requires within { All (λ r. r.number < length known.found.now) reported.now }
-        ensures { IfOk result (spec.AreTextNotes self.now.trees.now known.entry reported.now) }
+        ensures { IfOk result (spec.AreTextNotes self.now.search.is_stack self.now.trees.now known.entry reported.now) }
     {
         let outlook = Outlook::of(self.alloc, known.graph)?;
         let mut outcomes = self.outcomes(known, &outlook, reported, watch)?;
@@ -282,7 +285,7 @@ impl Stage<'_> {
         known: ParsedText<'_>,
         watch: &mut W,
     ) -> Result<Items<Note>, AllocError>
-        ensures { IfOk result (spec.AreAllNotes self.now.trees.now known.entry) }
+        ensures { IfOk result (spec.AreAllNotes self.now.search.is_stack self.now.trees.now known.entry) }
     {
         let [_, ..] = known.found else {
             return Ok(Items::new(self.alloc));
@@ -300,7 +303,7 @@ impl Stage<'_> {
         watch: &mut W,
     ) -> Result<Items<Note>, AllocError>
         requires tree { IsTreeOf self.now.trees.now source.text.now place }
-        ensures { IfOk result (AreNotesOf self.now.trees.now source.entry.text.now place) }
+        ensures { IfOk result (AreNotesOf self.now.search.is_stack self.now.trees.now source.entry.text.now place) }
     {
         let tree = tree_at(self.trees, source.text, place);
         let graph = lower(self.alloc, tree)?;
@@ -322,7 +325,8 @@ impl Stage<'_> {
         watch: &mut W,
     ) -> Result<Items<Note>, AllocError>
         requires text { IsStudied self.now.trees.now studied.now }
-        ensures { IfOk result (spec.AreNotesFor self.now.trees.now studied.now.source.text.now studied.now.reading) }
+        ensures { IfOk result (spec.AreNotesFor self.now.search.is_stack self.now.trees.now studied.now.source.text.now
+            studied.now.reading) }
     {
         match studied.reading {
             Reading::Unread(_) | Reading::Other(_) => Ok(Items::new(self.alloc)),
@@ -337,7 +341,7 @@ impl Stage<'_> {
         watch: &mut W,
     ) -> Result<Items<Note>, AllocError>
         requires texts { AreStudied self.now.trees.now 0 each.now }
-        ensures { IfOk result (AreNotesIn self.now.trees.now (known_in each.now) (texts_read each.now)) }
+        ensures { IfOk result (AreNotesIn self.now.search.is_stack self.now.trees.now (known_in each.now) (texts_read each.now)) }
     {
         let mut all = Items::new(self.alloc);
         for studied in each {
@@ -357,17 +361,17 @@ impl Stage<'_> {
 /// If memory is refused, or a number or a count would reach 2^32.
 pub fn notes_on<W: SearchWatch>(
     alloc: Global,
-    states: u32,
+    search: RunSearch,
     sources: &[Source<'_>],
     watch: &mut W,
 ) -> Result<Items<Note>, AllocError>
-    ensures { IfOk result (AreNotes (texts_of sources.now)) }
+    ensures { IfOk result (AreNotes search.is_stack (texts_of sources.now)) }
 {
     let readings = read_all(alloc, sources)?;
     let stage = Stage {
         alloc,
         trees: readings.trees.as_slice(),
-        states,
+        search,
     };
     stage.notes_of_all(readings.each.as_slice(), watch)
 }

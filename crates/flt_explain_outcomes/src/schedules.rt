@@ -22,6 +22,15 @@ use flt_search_started::StartedCallbacks;
 use flt_tree::{Callback, Tree};
 use std::alloc::{AllocError, Global};
 
+/// How runs are looked for.
+#[derive(Clone, Copy)]
+pub struct RunSearch {
+    /// The greatest number of states from which the search for runs of a text continues.
+    pub states: u32,
+    /// Whether the filters are those of one stack: then runs of all of them are looked for first. Else each is alone.
+    pub is_stack: bool,
+}
+
 /// A finding, by its number among those of its text.
 #[derive(Clone, Copy)]
 pub struct Suspect {
@@ -217,25 +226,31 @@ pub fn only(trees: &[Tree], number: usize) -> &[Tree]
     }
 }
 
-/// Whether runs of all filters are worth a search: the filter of a number meets another one, and all can be in one stack.
-fn may_meet(trees: &[Tree], number: usize) -> bool
-    ensures { IsTrue result → spec.MayMeet trees.now number }
+/// Whether runs of all filters are worth a search: the filters are those of one stack, the filter of a number meets another one, and all
+/// can be there at once.
+fn may_meet(is_stack: bool, trees: &[Tree], number: usize) -> bool
+    ensures { IsTrue result → spec.MayMeet is_stack trees.now number }
 {
-    trees.len() <= MAX_FILTERS && meets_others(trees, number) && first_repeated(trees).is_none()
+    is_stack
+        && trees.len() <= MAX_FILTERS
+        && meets_others(trees, number)
+        && first_repeated(trees).is_none()
 }
 
-/// The answers of a search in runs of all filters; none if the findings' filter doesn't meet another one.
+/// The answers of a search in runs of all filters, with half of so many states; none if the filters are no stack, or the findings' filter
+/// doesn't meet another one.
 fn searched_together<W: SearchWatch>(
     alloc: Global,
     trees: &[Tree],
     suspects: &Suspects<'_>,
     started: Option<&StartedCallbacks>,
-    states: u32,
+    asked: RunSearch,
     watched: &mut WatchedSearch<'_, W>,
 ) -> Result<Vec<Answer>, AllocError>
-    ensures { IfOk result (λ found. spec.AreTogether trees.now suspects.now.filter suspects.now.found.now found.items) }
+    ensures { IfOk result
+        (λ found. spec.AreTogether asked.is_stack trees.now suspects.now.filter suspects.now.found.now found.items) }
 {
-    if !may_meet(trees, suspects.filter) {
+    if !may_meet(asked.is_stack, trees, suspects.filter) {
         return Ok(Vec::new(alloc));
     }
     searched(
@@ -245,7 +260,7 @@ fn searched_together<W: SearchWatch>(
         suspects,
         started,
         &[],
-        states,
+        asked.states / 2,
         watched,
     )
 }
@@ -299,6 +314,7 @@ fn schedule_for(
 /// The outcome of a finding, by the answers of both searches.
 fn scheduled_for(
     alloc: Global,
+    _is_stack: bool,
     _trees: &[Tree],
     suspects: &Suspects<'_>,
     started: Option<&StartedCallbacks>,
@@ -307,9 +323,9 @@ fn scheduled_for(
     alone: Option<&Answer>,
 ) -> Result<JointOutcome, AllocError>
     requires started { spec.IsStartedOf (spec.callbacks_of _trees.now suspects.now.filter) started }
-    requires together { spec.IsTogetherBy _trees.now suspects.now.filter finding.now together }
+    requires together { spec.IsTogetherBy _is_stack _trees.now suspects.now.filter finding.now together }
     requires alone { spec.IsFoundBy (filters_of (spec.only _trees.now suspects.now.filter)) finding.now alone }
-    ensures { IfOk result (spec.IsScheduled _trees.now suspects.now.filter suspects.now.outlook.now finding.now) }
+    ensures { IfOk result (spec.IsScheduled _is_stack _trees.now suspects.now.filter suspects.now.outlook.now finding.now) }
 {
     match together {
         Some(Answer::Breaks(_)) => {
@@ -326,6 +342,7 @@ fn scheduled_for(
 /// The outcome of each finding, by the answers of both searches.
 fn outcomes_by(
     alloc: Global,
+    is_stack: bool,
     trees: &[Tree],
     suspects: &Suspects<'_>,
     started: Option<&StartedCallbacks>,
@@ -333,15 +350,16 @@ fn outcomes_by(
     alone: &[Answer],
 ) -> Result<Vec<Outcome>, AllocError>
     requires started { spec.IsStartedOf (spec.callbacks_of trees.now suspects.now.filter) started }
-    requires together { spec.AreTogether trees.now suspects.now.filter suspects.now.found.now together.now }
+    requires together { spec.AreTogether is_stack trees.now suspects.now.filter suspects.now.found.now together.now }
     requires alone { spec.AreFound (filters_of (spec.only trees.now suspects.now.filter)) suspects.now.found.now alone.now }
     ensures { IfOk result
-        (λ all. spec.AreOutcomes trees.now suspects.now.filter suspects.now.outlook.now suspects.now.found.now all.items) }
+        (λ all. spec.AreOutcomes is_stack trees.now suspects.now.filter suspects.now.outlook.now suspects.now.found.now all.items) }
 {
     let mut all = Vec::new(alloc);
     for (place, suspect) in suspects.found.iter().enumerate() {
         let scheduled = scheduled_for(
             alloc,
+            is_stack,
             trees,
             suspects,
             started,
@@ -357,11 +375,11 @@ fn outcomes_by(
     Ok(all)
 }
 
-/// The outcome of each of some findings of one filter in runs of all these filters, which may be in any order. If the findings' filter
-/// meets another one on an operation, runs of all filters are looked for first, with half of the bound; for the findings without such a
-/// run, runs of the filter alone are looked for. Each of these is one search for all findings, as `flt_search::search` says; both together
-/// continue from at most so many states, and `watch` hears of each 10,000 of them. A run that breaks something where a finding is comes
-/// before one that breaks it elsewhere in the callback; no clause is about that.
+/// The outcome of each of some findings of one filter in runs of these filters, which may be in any order. If they are those of one stack
+/// and the findings' filter meets another one on an operation, runs of all filters are looked for first, with half of the bound; for the
+/// findings without such a run, runs of the filter alone are looked for. Each of these is one search for all findings, as
+/// `flt_search::search` says; both together continue from at most so many states, and `watch` hears of each 10,000 of them. A run that
+/// breaks something where a finding is comes before one that breaks it elsewhere in the callback; no clause is about that.
 ///
 /// # Errors
 ///
@@ -370,16 +388,17 @@ pub fn outcomes_among<W: SearchWatch>(
     alloc: Global,
     trees: &[Tree],
     suspects: &Suspects<'_>,
-    states: u32,
+    asked: RunSearch,
     watch: &mut W,
 ) -> Result<Vec<Outcome>, AllocError>
     ensures { IfOk result
-        (λ all. spec.AreOutcomes trees.now suspects.now.filter suspects.now.outlook.now suspects.now.found.now all.items) }
+        (λ all. spec.AreOutcomes asked.is_stack trees.now suspects.now.filter suspects.now.outlook.now suspects.now.found.now
+        all.items) }
 {
     let started = StartedCallbacks::of(alloc, callbacks_of(trees, suspects.filter))?;
     let started = started.as_ref();
     let mut watched = WatchedSearch::new(watch);
-    let together = searched_together(alloc, trees, suspects, started, states / 2, &mut watched)?;
+    let together = searched_together(alloc, trees, suspects, started, asked, &mut watched)?;
     let together = together.as_slice();
     let alone = searched_alone(
         alloc,
@@ -387,8 +406,16 @@ pub fn outcomes_among<W: SearchWatch>(
         suspects,
         started,
         together,
-        states,
+        asked.states,
         &mut watched,
     )?;
-    outcomes_by(alloc, trees, suspects, started, together, alone.as_slice())
+    outcomes_by(
+        alloc,
+        asked.is_stack,
+        trees,
+        suspects,
+        started,
+        together,
+        alone.as_slice(),
+    )
 }

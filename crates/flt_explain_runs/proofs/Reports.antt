@@ -143,7 +143,7 @@ body_none look trees files k details lines few are = go k.found.now few
 pub known_print : TextsWithoutCirclesAreOrderly → (look : Look) (trees : List Tree) (files : List Files) (k : ParsedText)
     (details : List WarningDetail) (p : TextReport) → IsKnownIn look trees k details →
     IsBody look trees files k.place k.source k.tree.now k.graph.now k.found.now details (notes_in p) (body_bytes p.body) →
-    AreAllNotes trees k (notes_in p) → string_bytes p.closing ≡ findings_closing k.source.files k.found.now →
+    AreAllNotes look.search.is_stack trees k (notes_in p) → string_bytes p.closing ≡ findings_closing k.source.files k.found.now →
     p.tally.status ≡ warned_status look.options.is_strict k.found.now details → p.tally.findings ≡ length k.found.now →
     IsKnownPart look trees files k.place k.source p
 known_print law look trees files k details p known body notes closing status count = record {
@@ -254,7 +254,8 @@ module _ (look : Look) (trees : List Tree) (files : List Files) (s : StudiedText
   -- the whole report of a text that parses
   pub known_part : (place : ℕ) (result : Result TextReport AllocError) → s.reading ≡ reading.Known place →
       IfOk result (IsKnownPart look trees files place s.source) →
-      IfOk result (λ p. AreNotesOf trees s.source.text.now place (notes_in p)) → IfOk result (IsPart look trees files s)
+      IfOk result (λ p. AreNotesOf look.search.is_stack trees s.source.text.now place (notes_in p)) →
+      IfOk result (IsPart look trees files s)
   known_part place (Ok p) same print notes = record {
     report = report_known look trees files (filters_of trees) place s.source _ _ _ _ print;
     notes = rw same notes;

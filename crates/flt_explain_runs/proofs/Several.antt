@@ -29,6 +29,7 @@ use Rattle.flt_explain_runs.specs.declared.parts.TextReport.{TextReport}
 use Rattle.flt_explain_outcomes.specs.declared.readings.Reading.{Reading}
 use Rattle.flt_explain_outcomes.specs.declared.readings.Reading.TheVariants.{Unread, Other, Known}
 use Rattle.flt_explain_outcomes.specs.declared.readings.StudiedText.{StudiedText}
+use Rattle.flt_explain_outcomes.specs.declared.schedules.RunSearch.{RunSearch}
 use Rattle.flt_explain_runs.specs.declared.together.PrintedTexts.{PrintedTexts}
 use Rattle.flt_explain_runs.specs.declared.totals.Total.{Total}
 use Rattle.flt_explain_runs.proofs.Closing.{quiet_summary}
@@ -50,10 +51,10 @@ printed_none look trees files p bytes noted total = record {
 }
 
 -- of no text there are no notes
-pub empty_notes : (trees : List Tree) (each : List StudiedText) (notes : List Note) → length each < 1 → notes ≡ [] →
-    AreNotesIn trees (known_in each) (texts_read each) notes
-empty_notes trees [] notes few none = rw none notes_none
-empty_notes trees (s ∷ each) notes few none = absurd (omega (arith, few))
+pub empty_notes : (is_stack : Bool) (trees : List Tree) (each : List StudiedText) (notes : List Note) → length each < 1 → notes ≡ [] →
+    AreNotesIn is_stack trees (known_in each) (texts_read each) notes
+empty_notes is_stack trees [] notes few none = rw none notes_none
+empty_notes is_stack trees (s ∷ each) notes few none = absurd (omega (arith, few))
 
 some_last : (ss : List Source) (s : Source) → ss ++ s ∷ [] ≡ [] → ⊥
 some_last [] s none = cc
@@ -67,10 +68,11 @@ none_printed look trees files none no_print = (refl, refl, refl)
 none_printed look trees files none (fails {ss = ss} {s = s} are is) = absurd (some_last ss s none)
 none_printed look trees files none (parses {ss = ss} {s = s} are is) = absurd (some_last ss s none)
 
-unnoted : (trees : List Tree) (text : Text) (r : Reading) (notes : List Note) → AreNotesFor trees text r notes → known r ≡ 0 → notes ≡ []
-unnoted trees text (Unread f) notes are none = are
-unnoted trees text (Other kind) notes are none = are
-unnoted trees text (Known place) notes are none = absurd (omega (arith, none))
+unnoted : (is_stack : Bool) (trees : List Tree) (text : Text) (r : Reading) (notes : List Note) → AreNotesFor is_stack trees text r notes →
+    known r ≡ 0 → notes ≡ []
+unnoted is_stack trees text (Unread f) notes are none = are
+unnoted is_stack trees text (Other kind) notes are none = are
+unnoted is_stack trees text (Known place) notes are none = absurd (omega (arith, none))
 
 -- with the report of a text more
 told_more : (look : Look) (trees : List Tree) (files : List Files) (each : List StudiedText) (s : StudiedText) (notes : List Note)
@@ -81,12 +83,14 @@ told_more : (look : Look) (trees : List Tree) (files : List Files) (each : List 
 told_more look trees files each s notes printed total part are is placed own = record {
   parts = rw (sources_push each s) (parts_more are.parts own.report);
   noted = rw (texts_push each s, known_push each s)
-      (text_more trees (known_in each) (texts_read each) notes s.source.text.now s.reading (notes_in part) are.noted is placed own.notes);
+      (text_more look.search.is_stack trees (known_in each) (texts_read each) notes s.source.text.now s.reading (notes_in part) are.noted is
+      placed own.notes);
   said = others (notes ++ notes_in part) (printed ++ report_bytes part) (10 ∷ [])
-      (said_both trees look.states notes printed are.said own.said) refl;
+      (said_both trees look.search notes printed are.said own.said) refl;
   prints = rw (sources_push each s, known_push each s)
       (prints_more look trees files (known_in each) (sources_read each) notes printed total.status total.findings total.files s.source
-      s.reading part are.prints placed (unnoted trees s.source.text.now s.reading (notes_in part) own.notes) own.print);
+      s.reading part are.prints placed (unnoted look.search.is_stack trees s.source.text.now s.reading (notes_in part)
+      own.notes) own.print);
 }
 
 pub printed_more : (look : Look) (trees : List Tree) (files : List Files) (each : List StudiedText)
@@ -149,7 +153,7 @@ rest_out look trees files s behind old new a b c more all first second =
 -- whole reports of the first of some texts
 pub first_of : (look : Look) (trees : List Tree) (files : List Files) (each : List StudiedText) (further : List Source) (p : PrintedTexts) →
     ArePrinted look trees files each p → AreParsed (texts_of (sources_read each ++ further)) (filters_of trees) →
-    AreFirst look.options (sources_read each) further look.states p.bytes.items
+    AreFirst look.options (sources_read each) further look.search p.bytes.items
 first_of look trees files each further p are parsed = record {
   trees = trees;
   parsed = parsed;
@@ -164,16 +168,17 @@ first_of look trees files each further p are parsed = record {
 }
 
 -- where it ends before all is known, so much is put out
-pub cut_none : (options : WarningOptions) (sources : List Source) (states : ℕ) (old : Option (List ℕ)) → IsCut options sources states old
+pub cut_none : (options : WarningOptions) (sources : List Source) (search : RunSearch) (old : Option (List ℕ)) →
+    IsCut options sources search old
     old
-cut_none options sources states old = record { printed = []; added = appends_none old; are = inl refl }
+cut_none options sources search old = record { printed = []; added = appends_none old; are = inl refl }
 
 pub cut_at : (look : Look) (trees : List Tree) (files : List Files) (all each rest : List StudiedText) (p : PrintedTexts) (held : Bool)
     (old new : Option (List ℕ)) →
     AreParsed (texts_read all) (filters_of trees) → all ≡ each ++ rest → ArePrinted look trees files each p → (held ≡ true → new ≡ old) →
-    (held ≡ false → Appends old new p.bytes.items) → IsCut look.options (sources_read all) look.states old new
+    (held ≡ false → Appends old new p.bytes.items) → IsCut look.options (sources_read all) look.search old new
 cut_at look trees files all each rest p true old new parsed is are none some =
-    rw (none refl) (cut_none look.options (sources_read all) look.states old)
+    rw (none refl) (cut_none look.options (sources_read all) look.search old)
 cut_at look trees files all each rest p false old new parsed is are none some =
     let whole : sources_read all ≡ sources_read each ++ sources_read rest = ap sources_read is ∙ sources_both each rest in
     record {
@@ -189,18 +194,18 @@ cut_at look trees files all each rest p false old new parsed is are none some =
     }
 
 -- there is a last text
-all_but_last : (options : WarningOptions) (sources before : List Source) (last : Source) (states : ℕ) (printed : List ℕ) →
-    sources ≡ before ++ last ∷ [] → AreFirst options before (last ∷ []) states printed → IsAllButLast options sources states printed
-all_but_last options [] [] last states printed is are = absurd (cc is)
-all_but_last options [] (t ∷ before) last states printed is are = absurd (cc is)
-all_but_last options (s ∷ sources) before last states printed is are = record { before = before; last = last; whole = is; are = are }
+all_but_last : (options : WarningOptions) (sources before : List Source) (last : Source) (search : RunSearch) (printed : List ℕ) →
+    sources ≡ before ++ last ∷ [] → AreFirst options before (last ∷ []) search printed → IsAllButLast options sources search printed
+all_but_last options [] [] last search printed is are = absurd (cc is)
+all_but_last options [] (t ∷ before) last search printed is are = absurd (cc is)
+all_but_last options (s ∷ sources) before last search printed is are = record { before = before; last = last; whole = is; are = are }
 
 -- the reports of all texts but the last are put out, and the last one's stands behind them
 put_out : (look : Look) (trees : List Tree) (files : List Files) (all each : List StudiedText) (s : StudiedText) (behind : List ℕ)
     (old new : PrintedTexts) (held : Bool) (a b : Option (List ℕ)) →
     AreParsed (texts_read all) (filters_of trees) → all ≡ each ++ s ∷ [] → ArePrinted look trees files each old →
     IsMore look trees files s behind old new → new.sent ≡ old.sent → HoldsBack held old → (held ≡ true → b ≡ a) →
-    (held ≡ false → Appends a b old.bytes.items) → IsPutOut look.options (sources_read all) look.states held a b new
+    (held ≡ false → Appends a b old.bytes.items) → IsPutOut look.options (sources_read all) look.search held a b new
 put_out look trees files all each s behind old new true a b parsed is are more kept holds none some =
     let sent : new.sent ≡ 0 = kept ∙ holds.none refl in
     record {
@@ -218,7 +223,7 @@ put_out look trees files all each s behind old new false a b parsed is are more 
     record {
       within = rw (sent, more.bytes) (omega (arith, length-append bytes rest));
       added = rw first (some refl);
-      early = λ h. rw first (all_but_last look.options (sources_read all) (sources_read each) s.source look.states bytes sources
+      early = λ h. rw first (all_but_last look.options (sources_read all) (sources_read each) s.source look.search bytes sources
           (first_of look trees files each (s.source ∷ []) old are
           (subst (λ ss. AreParsed (texts_of ss) (filters_of trees)) sources parsed)));
       late = λ h. absurd (cc h);
@@ -229,7 +234,7 @@ pub cut_here : (look : Look) (trees : List Tree) (files : List Files) (each : Li
     (old new : Option (List ℕ)) →
     AreParsed (texts_read each) (filters_of trees) → ArePrinted look trees files (take i (take n each)) p → (held ≡ true → new ≡ old) →
     (held ≡ false → Appends old new p.bytes.items) →
-    IsCut look.options (sources_read each) look.states old new
+    IsCut look.options (sources_read each) look.search old new
 cut_here look trees files each n i p held old new parsed are none some =
     let before = take n each in
     let whole : each ≡ take i before ++ (drop i before ++ drop n each) =
@@ -273,7 +278,7 @@ module _ (look : Look) (trees : List Tree) (files : List Files) (each : List Stu
       (told_more look trees files (take (length each - 1) each) last old.noted old.bytes.items old.total more.part front
       (last_studied trees each last studied some is) (last_placed trees each last studied some is) more.is))
 
-  pub all_noted : AreNotesIn trees (known_in each) (texts_read each) new.noted
+  pub all_noted : AreNotesIn look.search.is_stack trees (known_in each) (texts_read each) new.noted
   all_noted = all.noted
 
   -- nothing comes before the only text
@@ -319,16 +324,16 @@ module _ (look : Look) (trees : List Tree) (files : List Files) (each : List Stu
       ∙ sym (append_assoc (old.bytes.items ++ report_bytes more.part ++ 10 ∷ [])
       (summary new.total.findings new.total.files (length (sources_read each))) (10 ∷ []))
 
-  pub all_said : Say trees look.states new.noted new.bytes.items
+  pub all_said : Say trees look.search new.noted new.bytes.items
   all_said = go each refl
     where
-      go : (e : List StudiedText) → each ≡ e → Say trees look.states new.noted new.bytes.items
+      go : (e : List StudiedText) → each ≡ e → Say trees look.search new.noted new.bytes.items
       go [] same = let none = ap length same in absurd (omega (arith, some, none))
       go (s ∷ []) same = rw (only_noted s same, only_bytes s same) more.is.said
       go (s ∷ (t ∷ rest)) same =
           let many = ap length same in
           let several : 2 ≤ length each = omega (arith, many) in
-          said_more trees look.states new.noted (old.bytes.items ++ report_bytes more.part ++ 10 ∷ [])
+          said_more trees look.search new.noted (old.bytes.items ++ report_bytes more.part ++ 10 ∷ [])
           (summary new.total.findings new.total.files (length (sources_read each)) ++ 10 ∷ []) new.bytes.items all.said
           (quiet_summary new.total.findings new.total.files (length (sources_read each))) (several_bytes several)
 
@@ -361,7 +366,8 @@ module _ (look : Look) (trees : List Tree) (files : List Files) (each : List Stu
           let placed = subst (AreStudied trees 0) same studied in
           rw (only_noted s same, only_bytes s same, only_status s same)
           (print_of_only look trees files s.source s.reading more.part placed.1
-          (unnoted trees s.source.text.now s.reading (notes_in more.part) (only_is s same).notes) (only_is s same).print)
+          (unnoted look.search.is_stack trees s.source.text.now s.reading (notes_in more.part) (only_is s same).notes)
+          (only_is s same).print)
       go (s ∷ (t ∷ rest)) same =
           let many = ap length same in
           let several : 2 ≤ length each = omega (arith, many) in
@@ -376,7 +382,7 @@ module _ (look : Look) (trees : List Tree) (files : List Files) (each : List Stu
 
   pub all_sent : (held : Bool) (a b : Option (List ℕ)) → AreParsed (texts_read each) (filters_of trees) → new.sent ≡ old.sent →
       HoldsBack held old → (held ≡ true → b ≡ a) → (held ≡ false → Appends a b old.bytes.items) →
-      IsPutOut look.options (sources_read each) look.states held a b new
+      IsPutOut look.options (sources_read each) look.search held a b new
   all_sent held a b parsed kept holds none out =
       put_out look trees files each (take (length each - 1) each) last
       (ending new.total.findings new.total.files (length each)) old new held

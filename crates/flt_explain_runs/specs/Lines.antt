@@ -1,5 +1,5 @@
 -- What is said of what comes of a finding: the line that says it, to the letter. This project's own program.
-use Rattle.std.specs.Prelude.{ℕ, suc, ◌==◌, Bool, true, false, List, [], ◌∷◌, ◌++◌, Option}
+use Rattle.std.specs.Prelude.{ℕ, suc, ◌==◌, ◌&&◌, Bool, true, false, List, [], ◌∷◌, ◌++◌, Option}
 use Rattle.std.specs.Prelude.{Some, None, codes, length, map, nat_lt, if◌then◌else◌}
 use Rattle.std.specs.Char.{is_ascii_graphic}
 use Rattle.std.specs.Fmt.{decimal}
@@ -20,6 +20,7 @@ use Rattle.flt_explain_outcomes.specs.Noted.{own_of, schedule_of}
 use Rattle.flt_explain_outcomes.specs.declared.noted.SetterOutcome.{SetterOutcome}
 use Rattle.flt_explain_outcomes.specs.declared.noted.SetterOutcome.TheVariants.{Runs, RunsNowhere}
 use Rattle.flt_explain_outcomes.specs.declared.noted.Note.{Note}
+use Rattle.flt_explain_outcomes.specs.declared.schedules.RunSearch.{RunSearch}
 
 -- ---- a run
 
@@ -55,12 +56,13 @@ abbrev pub names : List ℕ → List Tree → List ℕ
 names word [] = []
 names word (t ∷ ts) = word ++ map shown t.filter.name ++ names (codes " and ") ts
 
--- the filters of a run, where there are others beside them
-abbrev pub on : List Tree → List Tree → List ℕ
-on trees own = if nat_lt 1 (length trees) then names (codes ", on ") own else []
+-- the filters of a run, where there are several in a stack
+abbrev pub on : Bool → List Tree → List Tree → List ℕ
+on is_stack trees own = if is_stack && nat_lt 1 (length trees) then names (codes ", on ") own else []
 
-abbrev pub run_words : List Tree → List Tree → BreakingJournal → List ℕ
-run_words trees own b = verdict_line (verdicts.Breaks b.violation b.entry) ++ lengths b.journal ++ on trees own
+abbrev pub run_words : Bool → List Tree → List Tree → BreakingJournal → List ℕ
+run_words is_stack trees own b =
+    verdict_line (verdicts.Breaks b.violation b.entry) ++ lengths b.journal ++ on is_stack trees own
 
 -- ---- no run
 
@@ -111,13 +113,13 @@ reason states n (NeverGot u) = never_got u.stream u.instance
 -- ---- notes
 
 -- what a note says
-abbrev pub words_of : List Tree → ℕ → Note → Schedule → List ℕ
-words_of trees states n (Breaks b) = run_words trees (own_of trees n.filter n.scheduled) b
-words_of trees states n s = codes "none: " ++ reason states n s
+abbrev pub words_of : List Tree → RunSearch → Note → Schedule → List ℕ
+words_of trees search n (Breaks b) = run_words search.is_stack trees (own_of trees n.filter n.scheduled) b
+words_of trees search n s = codes "none: " ++ reason search.states n s
 
 -- the line of a note, where these are the trees of the texts that parse
-abbrev pub note_line : List Tree → ℕ → Note → List ℕ
-note_line trees states n = codes "   = journal: " ++ words_of trees states n (schedule_of n.scheduled) ++ 10 ∷ []
+abbrev pub note_line : List Tree → RunSearch → Note → List ℕ
+note_line trees search n = codes "   = journal: " ++ words_of trees search n (schedule_of n.scheduled) ++ 10 ∷ []
 
 -- a run of a text with one more callback breaks this at an entry
 abbrev pub again_words : Violation → ℕ → List ℕ

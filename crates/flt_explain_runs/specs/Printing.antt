@@ -36,12 +36,13 @@ use Rattle.flt_explain_runs.specs.declared.printing.Printer.{Printer}
 use Rattle.flt_explain_outcomes.specs.declared.readings.Reading.{Reading}
 use Rattle.flt_explain_outcomes.specs.declared.readings.Reading.TheVariants as reading
 use Rattle.flt_explain_outcomes.specs.declared.readings.StudiedText.{StudiedText}
+use Rattle.flt_explain_outcomes.specs.declared.schedules.RunSearch.{RunSearch}
 use Rattle.flt_explain_runs.specs.declared.together.PrintedTexts.{PrintedTexts}
 use Rattle.flt_explain_runs.specs.declared.totals.Total.{Total}
 
 -- how reports are printed
 abbrev pub look_of : Printer → Look
-look_of p = record { coloured = p.coloured; states = p.stage.states; options = p.options }
+look_of p = record { coloured = p.coloured; search = p.stage.search; options = p.options }
 
 -- ---- one text
 
@@ -107,8 +108,8 @@ IsPrintOf look trees files s (reading.Known place) p = IsKnownPart look trees fi
 -- the report of a text, with its notes
 pub record IsPart (look : Look) (trees : List Tree) (files : List Files) (s : StudiedText) (p : TextReport) : Type 0 where
   pub report : HasReport look.options (filters_of trees) s.source p
-  pub notes : AreNotesFor trees s.source.text.now s.reading (notes_in p)
-  pub said : Say trees look.states (notes_in p) (report_bytes p)
+  pub notes : AreNotesFor look.search.is_stack trees s.source.text.now s.reading (notes_in p)
+  pub said : Say trees look.search (notes_in p) (report_bytes p)
   pub print : IsPrintOf look trees files s.source s.reading p
 
 -- ---- several texts
@@ -117,8 +118,8 @@ pub record IsPart (look : Look) (trees : List Tree) (files : List Files) (s : St
 pub record AreTold (look : Look) (trees : List Tree) (files : List Files) (each : List StudiedText) (notes : List Note) (printed : List ℕ)
     (total : Total) : Type 0 where
   pub parts : AreParts look.options (filters_of trees) (sources_read each) printed total.status total.findings total.files
-  pub noted : AreNotesIn trees (known_in each) (texts_read each) notes
-  pub said : Say trees look.states notes printed
+  pub noted : AreNotesIn look.search.is_stack trees (known_in each) (texts_read each) notes
+  pub said : Say trees look.search notes printed
   pub prints : ArePrints look trees files (known_in each) (sources_read each) notes printed total.status total.findings total.files
 
 abbrev pub ArePrinted : Look → List Tree → List Files → List StudiedText → PrintedTexts → Type 0
@@ -139,9 +140,9 @@ pub record HoldsBack (is_held : Bool) (p : PrintedTexts) : Type 0 where
   pub all : is_held ≡ false → p.sent ≡ length p.bytes.items
 
 -- so much of what is printed is put out: the reports of all texts but the last, or nothing where that is held back
-pub record IsPutOut (options : WarningOptions) (sources : List Source) (states : ℕ) (is_held : Bool) (old new : Option (List ℕ))
+pub record IsPutOut (options : WarningOptions) (sources : List Source) (search : RunSearch) (is_held : Bool) (old new : Option (List ℕ))
     (p : PrintedTexts) : Type 0 where
   pub within : p.sent ≤ length p.bytes.items
   pub added : Appends old new (take p.sent p.bytes.items)
-  pub early : is_held ≡ false → IsAllButLast options sources states (take p.sent p.bytes.items)
+  pub early : is_held ≡ false → IsAllButLast options sources search (take p.sent p.bytes.items)
   pub late : is_held ≡ true → p.sent ≡ 0

@@ -26,6 +26,7 @@ use Rattle.flt_explain_outcomes.specs.Parsed.{AreParsed, IsOther, IsUnread}
 use Rattle.flt_explain_runs.specs.Told.{Say}
 use Rattle.flt_explain_runs.specs.Totals.{some, summary}
 use Rattle.flt_explain_outcomes.specs.declared.noted.Note.{Note}
+use Rattle.flt_explain_outcomes.specs.declared.schedules.RunSearch.{RunSearch}
 
 -- ---- one file
 
@@ -123,7 +124,7 @@ pub record AreReports (options : WarningOptions) (sources : List Source) (printe
 
 -- each of these files, which come before others, has its whole report, with an empty line behind it, and the lines on runs in these are
 -- those of the notes of these files
-pub record AreFirst (options : WarningOptions) (before others : List Source) (states : ℕ) (printed : List ℕ) : Type 0 where
+pub record AreFirst (options : WarningOptions) (before others : List Source) (search : RunSearch) (printed : List ℕ) : Type 0 where
   pub trees : List Tree
   pub parsed : AreParsed (texts_of (before ++ others)) (filters_of trees)
   pub status : ℕ
@@ -132,34 +133,34 @@ pub record AreFirst (options : WarningOptions) (before others : List Source) (st
   pub reports : AreParts options (filters_of trees) before printed status findings files
   pub place : ℕ
   pub notes : List Note
-  pub noted : AreNotesIn trees place (texts_of before) notes
-  pub said : Say trees states notes printed
+  pub noted : AreNotesIn search.is_stack trees place (texts_of before) notes
+  pub said : Say trees search notes printed
 
 -- what is printed is the whole reports of the first of some files
-pub record IsBegun (options : WarningOptions) (sources : List Source) (states : ℕ) (printed : List ℕ) : Type 0 where
+pub record IsBegun (options : WarningOptions) (sources : List Source) (search : RunSearch) (printed : List ℕ) : Type 0 where
   pub before : List Source
   pub others : List Source
   pub whole : sources ≡ before ++ others
-  pub are : AreFirst options before others states printed
+  pub are : AreFirst options before others search printed
 
 -- nothing is printed, or whole reports of the first of some files
-abbrev pub AreWhole : WarningOptions → List Source → ℕ → List ℕ → Type 0
-AreWhole options sources states printed = (printed ≡ []) ⊎ IsBegun options sources states printed
+abbrev pub AreWhole : WarningOptions → List Source → RunSearch → List ℕ → Type 0
+AreWhole options sources search printed = (printed ≡ []) ⊎ IsBegun options sources search printed
 
 -- the same of what is put out
-pub record IsCut (options : WarningOptions) (sources : List Source) (states : ℕ) (old new : Option (List ℕ)) : Type 0 where
+pub record IsCut (options : WarningOptions) (sources : List Source) (search : RunSearch) (old new : Option (List ℕ)) : Type 0 where
   pub printed : List ℕ
   pub added : Appends old new printed
-  pub are : AreWhole options sources states printed
+  pub are : AreWhole options sources search printed
 
 -- the reports of all files but the last
-pub record IsAllButOne (options : WarningOptions) (sources : List Source) (states : ℕ) (printed : List ℕ) : Type 0 where
+pub record IsAllButOne (options : WarningOptions) (sources : List Source) (search : RunSearch) (printed : List ℕ) : Type 0 where
   pub before : List Source
   pub last : Source
   pub whole : sources ≡ before ++ last ∷ []
-  pub are : AreFirst options before (last ∷ []) states printed
+  pub are : AreFirst options before (last ∷ []) search printed
 
 -- the same, where there are files
-abbrev pub IsAllButLast : WarningOptions → List Source → ℕ → List ℕ → Type 0
-IsAllButLast options [] states printed = printed ≡ []
-IsAllButLast options (s ∷ ss) states printed = IsAllButOne options (s ∷ ss) states printed
+abbrev pub IsAllButLast : WarningOptions → List Source → RunSearch → List ℕ → Type 0
+IsAllButLast options [] search printed = printed ≡ []
+IsAllButLast options (s ∷ ss) search printed = IsAllButOne options (s ∷ ss) search printed

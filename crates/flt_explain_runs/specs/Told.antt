@@ -7,18 +7,19 @@ use Rattle.flt_explain_runs.specs.Lines.{note_line, again_line}
 use Rattle.flt_explain_outcomes.specs.Parsed.{AreParsed}
 use Rattle.flt_explain_runs.specs.Quiet.{is_quiet}
 use Rattle.flt_explain_outcomes.specs.declared.noted.Note.{Note}
+use Rattle.flt_explain_outcomes.specs.declared.schedules.RunSearch.{RunSearch}
 
 -- Whole lines are printed, of which those that say what comes of findings in runs are exactly the lines of these notes, in their order:
 -- between them, and in front and behind, no line begins as one of theirs.
-pub data Say (trees : List Tree) (states : ℕ) : List Note → List ℕ → Type 0 where
-  nothing : Say trees states [] []
-  others : (notes : List Note) (printed lines : List ℕ) → Say trees states notes printed → is_quiet lines ≡ true →
-      Say trees states notes (printed ++ lines)
-  note : (notes : List Note) (printed : List ℕ) (n : Note) (rows : List ℕ) → Say trees states notes printed → is_quiet rows ≡ true →
-      Say trees states (notes ++ n ∷ []) (printed ++ note_line trees states n ++ rows ++ again_line n.again)
+pub data Say (trees : List Tree) (search : RunSearch) : List Note → List ℕ → Type 0 where
+  nothing : Say trees search [] []
+  others : (notes : List Note) (printed lines : List ℕ) → Say trees search notes printed → is_quiet lines ≡ true →
+      Say trees search notes (printed ++ lines)
+  note : (notes : List Note) (printed : List ℕ) (n : Note) (rows : List ℕ) → Say trees search notes printed → is_quiet rows ≡ true →
+      Say trees search (notes ++ n ∷ []) (printed ++ note_line trees search n ++ rows ++ again_line n.again)
 
 -- the same, where the trees are those of the texts that parse
-pub record Tells (texts : List Text) (states : ℕ) (notes : List Note) (printed : List ℕ) : Type 0 where
+pub record Tells (texts : List Text) (search : RunSearch) (notes : List Note) (printed : List ℕ) : Type 0 where
   pub trees : List Tree
   pub parsed : AreParsed texts (filters_of trees)
-  pub said : Say trees states notes printed
+  pub said : Say trees search notes printed

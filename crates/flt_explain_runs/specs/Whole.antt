@@ -37,17 +37,17 @@ use Rattle.flt_explain_runs.specs.Warned.{Warned}
 use Rattle.flt_explain_runs.specs.Warnings.{ArePromised}
 use Rattle.flt_explain_runs.specs.declared.explaining.Asking.{Asking}
 use Rattle.flt_explain_outcomes.specs.declared.noted.Note.{Note}
+use Rattle.flt_explain_outcomes.specs.declared.schedules.RunSearch.{RunSearch}
 
--- with colours or without, how many states the search for runs of a text goes on from at most, and which warnings are left out and
--- whether they count
+-- with colours or without, how runs are looked for, and which warnings are left out and whether they count
 pub record Look : Type 0 where
   pub coloured : Bool
-  pub states : ℕ
+  pub search : RunSearch
   pub options : WarningOptions
 
 -- the same, as it is asked for
 abbrev pub look_for : Asking → Look
-look_for asking = record { coloured = asking.coloured; states = asking.states; options = asking.options }
+look_for asking = record { coloured = asking.coloured; search = asking.search; options = asking.options }
 
 -- ---- a text that parses
 
@@ -61,7 +61,7 @@ pub record IsBlock (look : Look) (trees : List Tree) (files : List Files) (own :
   pub are : AreNoteRows trees files n rows
   pub again : List ℕ
   pub more : AreAgainRows text own n.again again
-  pub whole : printed ≡ quieted report ++ note_line trees look.states n ++ quieted rows ++ again_line n.again ++ quieted again
+  pub whole : printed ≡ quieted report ++ note_line trees look.search n ++ quieted rows ++ again_line n.again ++ quieted again
 
 -- the same of each group and its note, one below the other
 pub data AreBlocks (look : Look) (trees : List Tree) (files : List Files) (own : Files) (text : Text) (f : Filter) (graph : Graph)
@@ -83,7 +83,7 @@ pub record AreReportsWithNotes (look : Look) (trees : List Tree) (files : List F
 abbrev pub warned_at : Look → List Tree → ℕ → Source → Tree → Warned
 warned_at look trees place s tree = record {
   coloured = look.coloured;
-  states = look.states;
+  states = look.search.states;
   own = only trees place;
   filter = tree.filter;
   files = s.files;
@@ -116,7 +116,7 @@ pub record IsKnownPrint (look : Look) (trees : List Tree) (files : List Files) (
   pub graph : Graph
   pub found : List Finding
   pub known : IsKnown s.text.now tree graph found
-  pub noted : AreNoted trees s.text.now place graph found notes
+  pub noted : AreNoted look.search.is_stack trees s.text.now place graph found notes
   pub details : List WarningDetail
   pub warned : AreWarningDetails s.files s.text.now tree.filter graph found look.options.allowed details
   pub order : PromisesOrder found look.options.allowed details tree.filter

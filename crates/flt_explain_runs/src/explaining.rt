@@ -12,7 +12,7 @@ ghost use Rattle.flt_explain_runs.specs.Whole.{IsPrint, look_for};
 use crate::fault::ExplainFault;
 use crate::printing::Printer;
 use crate::together::PrintedTexts;
-use flt_explain_outcomes::{Note, Reading, Stage, StudiedText, read_all};
+use flt_explain_outcomes::{Note, Reading, RunSearch, Stage, StudiedText, read_all};
 use flt_explain_texts::{Printout, Source};
 use flt_explain_warning_details::WarningOptions;
 use flt_model::Sink;
@@ -26,8 +26,8 @@ use std::alloc::{AllocError, Global};
 pub struct Asking {
     /// Whether escape sequences of a terminal colour the reports.
     pub coloured: bool,
-    /// The greatest number of states from which the search for runs of a text continues.
-    pub states: u32,
+    /// How runs of the texts are looked for.
+    pub search: RunSearch,
     /// Whether nothing is put out before everything is known.
     pub is_held: bool,
     /// Which warnings are left out, and whether they count.
@@ -89,12 +89,13 @@ fn finished(printed: PrintedTexts) -> ExplainOutput
 
 /// Reports on some texts for people: each finding with the lines of its file that show it, a path that leads there, how to fix it, and a
 /// journal that breaks what its rule prevents, if one is found. Journals are looked for by one search for all findings of a text, up to so
-/// many states: if several texts parse and the text's filter meets another one on an operation, half of them on all that parse, and on the
-/// filter alone for the findings without a journal there. The last line of each text is that of `analyse`, or `nothing found`; after those
-/// of several texts a line says how many findings there are, and in how many of the texts. Before `nothing found` a text has its warnings
-/// that no comment of it allows, and how many they are. A text that doesn't parse and begins as a certificate, a journal or a script is
-/// taken for one: its report says why a line of it is malformed, and its last line is that of `check`, `replay` or `run`, or `nothing
-/// found`. A script is taken for one for the filters of the texts that parse, or, if none does, for whichever filters it detaches.
+/// many states, in runs of the text's filter alone. If the texts are those of one stack and the filter meets another one on an operation,
+/// half of the states are for runs of all that parse, and the rest for the findings without a journal there. The last line of each text is
+/// that of `analyse`, or `nothing found`; after those of several texts a line says how many findings there are, and in how many of the
+/// texts. Before `nothing found` a text has its warnings that no comment of it allows, and how many they are. A text that doesn't parse
+/// and begins as a certificate, a journal or a script is taken for one: its report says why a line of it is malformed, and its last line
+/// is that of `check`, `replay` or `run`, or `nothing found`. A script is taken for one for the filters of the texts that parse, or, if
+/// none does, for whichever filters it detaches.
 ///
 /// Unless it is held back, the report of each text but the last is put out before the next one's findings are looked for.
 ///
@@ -110,19 +111,19 @@ pub fn explain<O: Sink, W: SearchWatch>(
     watch: &mut W,
 ) -> Result<ExplainOutput, ExplainFault>
     ensures reports { IfOk result (λ t. spec.AreReports asking.options sources.now t.explained.output.items t.explained.status) }
-    ensures noted { IfOk result (λ t. AreNotes (texts_of sources.now) t.noted) }
-    ensures said { IfOk result (λ t. Tells (texts_of sources.now) asking.states t.noted t.explained.output.items) }
+    ensures noted { IfOk result (λ t. AreNotes asking.search.is_stack (texts_of sources.now) t.noted) }
+    ensures said { IfOk result (λ t. Tells (texts_of sources.now) asking.search t.noted t.explained.output.items) }
     ensures print { IfOk result (λ t. IsPrint (look_for asking) sources.now t.noted t.explained.output.items t.explained.status) }
     ensures within { IfOk result (λ t. t.sent ≤ length t.explained.output.items) }
     ensures sent { IfOk result (λ t. Appends (O.taken out.old) (O.taken out.new) (take t.sent t.explained.output.items)) }
     ensures early { IfOk result (λ t. asking.is_held ≡ false →
-        spec.IsAllButLast asking.options sources.now asking.states (take t.sent t.explained.output.items)) }
+        spec.IsAllButLast asking.options sources.now asking.search (take t.sent t.explained.output.items)) }
     ensures late { IfOk result (λ t. asking.is_held ≡ true → t.sent ≡ 0) }
     ensures held { asking.is_held ≡ true → out.new ≡ out.old }
     ensures fine { OnOk result (O.failures out.new ≡ O.failures out.old) }
     ensures write { IfErr result (λ e. e ≡ ExplainFault.Write → O.failures out.new ≢ O.failures out.old) }
     ensures memory { IfErr result (λ e. e ≡ ExplainFault.OutOfMemory →
-        spec.IsCut asking.options sources.now asking.states (O.taken out.old) (O.taken out.new)) }
+        spec.IsCut asking.options sources.now asking.search (O.taken out.old) (O.taken out.new)) }
 {
     let readings = read_all(alloc, sources)?;
     let each = readings.each.as_slice();
@@ -131,7 +132,7 @@ pub fn explain<O: Sink, W: SearchWatch>(
         stage: Stage {
             alloc,
             trees: readings.trees.as_slice(),
-            states: asking.states,
+            search: asking.search,
         },
         coloured: asking.coloured,
         files: files.as_slice(),

@@ -8,7 +8,7 @@ ghost use Rattle.flt_explain_outcomes.specs.Noted.{schedule_of as schedule_in};
 ghost use Rattle.flt_explain_runs.specs.Rows.{AreJournalRows, AreNoteRows, AreRunRows};
 
 use flt_explain_outcomes::{
-    Note, Schedule, SetterOutcome, Unset, own_files, own_trees, schedule_of,
+    Note, RunSearch, Schedule, SetterOutcome, Unset, own_files, own_trees, schedule_of,
 };
 use flt_explain_timeline::Timeline;
 use flt_graph::Place;
@@ -120,11 +120,16 @@ fn put_names(out: &mut Vec<u8>, own: &[Tree]) -> Result<(), AllocError>
     Ok(())
 }
 
-/// Writes the names of the filters of a run, if more than one text parses.
-fn put_filters(out: &mut Vec<u8>, trees: &[Tree], own: &[Tree]) -> Result<(), AllocError>
-    ensures { OnOk result (out.new.items ≡ out.old.items ++ spec.on trees.now own.now) }
+/// Writes the names of the filters of a run, if the texts are those of one stack and more than one parses.
+fn put_filters(
+    out: &mut Vec<u8>,
+    is_stack: bool,
+    trees: &[Tree],
+    own: &[Tree],
+) -> Result<(), AllocError>
+    ensures { OnOk result (out.new.items ≡ out.old.items ++ spec.on is_stack trees.now own.now) }
 {
-    if 1 < trees.len() {
+    if is_stack && 1 < trees.len() {
         return put_names(out, own);
     }
     Ok(())
@@ -140,17 +145,18 @@ fn broken_words(alloc: Global, broken: &BreakingJournal) -> Result<String, Alloc
     format!(in alloc; "{words}{lengths}")
 }
 
-/// The words on a run of some of the filters of these trees.
+/// The words on a run of some of the filters of these trees, which are those of one stack or not.
 fn run_words(
     alloc: Global,
+    is_stack: bool,
     trees: &[Tree],
     own: &[Tree],
     broken: &BreakingJournal,
 ) -> Result<Vec<u8>, AllocError>
-    ensures { IfOk result (λ words. words.items ≡ spec.run_words trees.now own.now broken.now) }
+    ensures { IfOk result (λ words. words.items ≡ spec.run_words is_stack trees.now own.now broken.now) }
 {
     let mut words = broken_words(alloc, broken)?.into_bytes();
-    put_filters(&mut words, trees, own)?;
+    put_filters(&mut words, is_stack, trees, own)?;
     Ok(words)
 }
 
@@ -290,21 +296,21 @@ fn none_words(alloc: Global, states: u32, noted: &Note) -> Result<Vec<u8>, Alloc
 fn note_words(
     alloc: Global,
     trees: &[Tree],
-    states: u32,
+    search: RunSearch,
     noted: &Note,
 ) -> Result<Vec<u8>, AllocError>
-    ensures { IfOk result (λ words. words.items ≡ spec.words_of trees.now states noted.now (schedule_in noted.now.scheduled)) }
+    ensures { IfOk result (λ words. words.items ≡ spec.words_of trees.now search noted.now (schedule_in noted.now.scheduled)) }
 {
     match schedule_of(&noted.scheduled) {
         Schedule::Breaks(broken) => {
             let own = own_trees(trees, noted.filter, &noted.scheduled);
-            run_words(alloc, trees, own, broken)
+            run_words(alloc, search.is_stack, trees, own, broken)
         }
         Schedule::NotWithin
         | Schedule::Cut
         | Schedule::NeverHanded
         | Schedule::NeverStarted
-        | Schedule::NeverGot(_) => none_words(alloc, states, noted),
+        | Schedule::NeverGot(_) => none_words(alloc, search.states, noted),
     }
 }
 
@@ -312,12 +318,12 @@ fn note_words(
 pub(crate) fn note_line(
     alloc: Global,
     trees: &[Tree],
-    states: u32,
+    search: RunSearch,
     noted: &Note,
 ) -> Result<Vec<u8>, AllocError>
-    ensures { IfOk result (λ line. line.items ≡ spec.note_line trees.now states noted.now) }
+    ensures { IfOk result (λ line. line.items ≡ spec.note_line trees.now search noted.now) }
 {
-    let words = note_words(alloc, trees, states, noted)?;
+    let words = note_words(alloc, trees, search, noted)?;
     let mut line = Vec::from_slice(alloc, b"   = journal: ")?;
     line.extend_from_slice(words.as_slice())?;
     line.push(b'\n')?;

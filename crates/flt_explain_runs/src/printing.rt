@@ -58,11 +58,11 @@ impl Printer<'_> {
     /// The line of a note, and its rows.
     fn note_lines(&self, note: &Note) -> Result<RunLines, AllocError>
         ensures line { IfOk result (λ lines. lines.line.items
-            ≡ lines_of.note_line self.now.stage.trees.now self.now.stage.states note.now) }
+            ≡ lines_of.note_line self.now.stage.trees.now self.now.stage.search note.now) }
         ensures rows { IfOk result (λ lines. AreNoteRows self.now.stage.trees.now self.now.files.now note.now lines.rows.items) }
     {
         let stage = &self.stage;
-        let line = note_line(stage.alloc, stage.trees, stage.states, note)?;
+        let line = note_line(stage.alloc, stage.trees, stage.search, note)?;
         let rows = note_rows(stage.alloc, stage.trees, self.files, note)?;
         Ok(RunLines {
             line,
@@ -140,7 +140,8 @@ impl Printer<'_> {
     ) -> Result<Body, AllocError>
         ensures print { IfOk result (λ body. AreReportsWithNotes (spec.look_of self.now) self.now.stage.trees.now self.now.files.now
             known.entry.source known.entry.tree.now known.entry.graph.now known.entry.found.now (body_notes body) (body_bytes body)) }
-        ensures notes { IfOk result (λ body. AreAllNotes self.now.stage.trees.now known.entry (body_notes body)) }
+        ensures notes { IfOk result (λ body. AreAllNotes self.now.stage.search.is_stack self.now.stage.trees.now known.entry
+            (body_notes body)) }
     {
         let reported = reported_findings(self.stage.alloc, known.graph, known.found)?;
         let noted = self
@@ -173,7 +174,7 @@ impl Printer<'_> {
         let text = WarnedText {
             alloc: self.stage.alloc,
             coloured: self.coloured,
-            states: self.stage.states,
+            states: self.stage.search.states,
             own: only(self.stage.trees, known.place),
             tree: known.tree,
             files: &known.source.files,
@@ -190,7 +191,8 @@ impl Printer<'_> {
         watch: &mut W,
     ) -> Result<Body, AllocError>
         ensures print { IfOk result (spec.IsBodyOf self.now known.entry details.now) }
-        ensures notes { IfOk result (λ body. AreAllNotes self.now.stage.trees.now known.entry (body_notes body)) }
+        ensures notes { IfOk result (λ body. AreAllNotes self.now.stage.search.is_stack self.now.stage.trees.now known.entry
+            (body_notes body)) }
     {
         match known.found {
             [] => Ok(Body::Lines(self.promise_and_warnings(known, details, watch)?)),
@@ -208,7 +210,8 @@ impl Printer<'_> {
         requires known { spec.IsKnownIn (spec.look_of self.now) self.now.stage.trees.now known details.now }
         ensures print { IfOk result (spec.IsKnownPart (spec.look_of self.now) self.now.stage.trees.now self.now.files.now
             known.entry.place known.entry.source) }
-        ensures notes { IfOk result (λ report. AreAllNotes self.now.stage.trees.now known.entry (notes_in report)) }
+        ensures notes { IfOk result (λ report. AreAllNotes self.now.stage.search.is_stack self.now.stage.trees.now known.entry
+            (notes_in report)) }
     {
         texts_without_circles_are_orderly();
         let body = self.body(known, details, watch)?;
@@ -234,7 +237,8 @@ impl Printer<'_> {
         requires tree { IsTreeOf self.now.stage.trees.now source.text.now place }
         ensures print { IfOk result (spec.IsKnownPart (spec.look_of self.now) self.now.stage.trees.now self.now.files.now place
             source.entry) }
-        ensures notes { IfOk result (λ report. AreNotesOf self.now.stage.trees.now source.entry.text.now place (notes_in report)) }
+        ensures notes { IfOk result (λ report. AreNotesOf self.now.stage.search.is_stack self.now.stage.trees.now
+            source.entry.text.now place (notes_in report)) }
     {
         let alloc = self.stage.alloc;
         let tree = tree_at(self.stage.trees, source.text, place);

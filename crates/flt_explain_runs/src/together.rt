@@ -156,19 +156,20 @@ impl Printer<'_> {
         ensures reports { IfOk result
             (λ p. spec.AreAllReports self.now.options (filters_of self.now.stage.trees.now) (sources_read each.now)
             p.bytes.items p.total.status) }
-        ensures notes { IfOk result (λ p. AreNotesIn self.now.stage.trees.now (known_in each.now) (texts_read each.now) p.noted) }
-        ensures said { IfOk result (λ p. Say self.now.stage.trees.now self.now.stage.states p.noted p.bytes.items) }
+        ensures notes { IfOk result (λ p. AreNotesIn self.now.stage.search.is_stack self.now.stage.trees.now (known_in each.now)
+            (texts_read each.now) p.noted) }
+        ensures said { IfOk result (λ p. Say self.now.stage.trees.now self.now.stage.search p.noted p.bytes.items) }
         ensures print { IfOk result
             (λ p. IsPrintOfAll (look_of self.now) self.now.stage.trees.now self.now.files.now (sources_read each.now)
             p.noted
             p.bytes.items p.total.status) }
         ensures sent { IfOk result
-            (IsPutOut self.now.options (sources_read each.now) self.now.stage.states is_held (O.taken out.old) (O.taken out.new)) }
+            (IsPutOut self.now.options (sources_read each.now) self.now.stage.search is_held (O.taken out.old) (O.taken out.new)) }
         ensures held { is_held ≡ true → out.new ≡ out.old }
         ensures fine { OnOk result (O.failures out.new ≡ O.failures out.old) }
         ensures write { IfErr result (λ e. e ≡ ExplainFault.Write → O.failures out.new ≢ O.failures out.old) }
         ensures memory { IfErr result (λ e. e ≡ ExplainFault.OutOfMemory →
-            spec.IsCut self.now.options (sources_read each.now) self.now.stage.states (O.taken out.old) (O.taken out.new)) }
+            spec.IsCut self.now.options (sources_read each.now) self.now.stage.search (O.taken out.old) (O.taken out.new)) }
     {
         let [before @ .., last] = each else {
             return Ok(PrintedTexts::new(self.stage.alloc));

@@ -61,6 +61,10 @@ states_rule = record (new_rule (codes "states")) {
   parser = Some (Signed (pos 1) (pos 100000000));
 }
 
+-- `--stack`
+abbrev pub stack_rule : Rule
+stack_rule = record (new_rule (codes "stack")) { long = Some (codes "stack"); action = Some SetTrue }
+
 -- `--journal FILE`
 abbrev pub written_rule : Rule
 written_rule = record (new_rule (codes "journal")) { long = Some (codes "journal"); value_names = 1 }
@@ -150,12 +154,12 @@ replay_app = with_rule (with_rule (with_rule (with_rule bare_replay_app timeline
 abbrev pub bare_explain_app : App
 bare_explain_app = new_app (codes "explain")
 
--- `explain [--form FORM] [--color WHEN] [--states N] [--journal FILE] [--runs] [--strict] [--allow KIND].. [--c] FILE..`
+-- `explain [--form FORM] [--color WHEN] [--states N] [--stack] [--journal FILE] [--runs] [--strict] [--allow KIND].. [--c] FILE..`
 abbrev pub explain_app : App
 explain_app =
-    with_rule (with_rule (with_rule
+    with_rule (with_rule (with_rule (with_rule
     (with_rule (with_rule (with_rule (with_rule (with_rule (with_rule bare_explain_app form_rule) colour_rule)
-    states_rule) written_rule) runs_rule) strict_rule) allow_rule) c_rule) texts_rule
+    states_rule) stack_rule) written_rule) runs_rule) strict_rule) allow_rule) c_rule) texts_rule
 
 abbrev pub bare_extract_app : App
 bare_extract_app = new_app (codes "extract")

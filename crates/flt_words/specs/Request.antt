@@ -7,6 +7,7 @@ use Rattle.flt_words.specs.declared.request.FormatMode.{FormatMode}
 use Rattle.flt_words.specs.declared.request.Part.{Part}
 use Rattle.flt_words.specs.declared.request.Request.{Request}
 use Rattle.flt_words.specs.declared.request.Request.TheVariants as request
+use Rattle.flt_words.specs.declared.request.SearchChoice.{SearchChoice}
 use Rattle.flt_words.specs.declared.request.WarningChoice.{WarningChoice}
 
 -- what is asked of warnings: whether one that is shown counts for the exit status, and the names of the kinds that are left out
@@ -25,8 +26,8 @@ pub data Asked : Type 0 where
   Run : (workers : ℕ) (quiet : Bool) (script : Text) (files : List Text) → Asked
   Replay : (journal : Text) (files : List Text) → Asked
   Show : (timeline : Bool) (picture : Option Text) (journal : Text) (files : List Text) → Asked
-  Explain : (form : Form) (colour : Colour) (states : ℕ) (journal : Option Text) (warnings : Choice) (is_c : Bool) (files : List Text) →
-      Asked
+  Explain : (form : Form) (colour : Colour) (search : SearchChoice) (journal : Option Text) (warnings : Choice) (is_c : Bool)
+      (files : List Text) → Asked
   Extract : (map : Bool) (files : List Text) → Asked
   Format : (mode : FormatMode) (files : List Text) → Asked
   Pages : (names : List Text) → Asked
@@ -44,8 +45,8 @@ asked_of (request.Run workers quiet script files) = Some (Run workers.count quie
 asked_of (request.Replay journal files) = Some (Replay journal.now (map (λ name. name.now) files.items))
 asked_of (request.Show timeline picture journal files) =
     Some (Show timeline (option_map (λ name. name.now) picture) journal.now (map (λ name. name.now) files.items))
-asked_of (request.Explain form colour states journal warnings is_c files) =
-    Some (Explain form colour states (option_map (λ name. name.now) journal) (choice_of warnings) is_c
+asked_of (request.Explain form colour search journal warnings is_c files) =
+    Some (Explain form colour search (option_map (λ name. name.now) journal) (choice_of warnings) is_c
     (map (λ name. name.now) files.items))
 asked_of (request.Extract of_map files) = Some (Extract of_map (map (λ name. name.now) files.items))
 asked_of (request.Format mode files) = Some (Format mode (map (λ name. name.now) files.items))

@@ -21,6 +21,7 @@ use Rattle.flt_words.specs.declared.request.Part.{Part}
 use Rattle.flt_words.specs.declared.request.Part.TheVariants.{Source, User, Inf}
 use Rattle.flt_words.specs.declared.request.Colour.{Colour}
 use Rattle.flt_words.specs.declared.request.Colour.TheVariants.{Auto, Always, Never}
+use Rattle.flt_words.specs.declared.request.SearchChoice.{SearchChoice}
 use Rattle.flt_words.specs.Workers.{within}
 use Rattle.flt_words.specs.Request.{Asked, Choice, Check, Analyse, Thin, Run, Replay, Show, Explain}
 use Rattle.flt_words.specs.Request.{Extract, Format, Pages, Emit, EmitInto, Compare, Serve}
@@ -57,6 +58,10 @@ states_of rows = option_map_or count_or_zero (first_of (codes "states") rows) 40
 -- a flag is there
 abbrev pub is_set : Text → List Row → Bool
 is_set id rows = option_map_or (λ text. bytes_eq text (codes "true")) (first_of id rows) false
+
+-- how runs are looked for: up to so many states, and in runs of all texts behind `--stack`
+abbrev pub search_of : List Row → SearchChoice
+search_of rows = record { states = states_of rows; is_stack = is_set (codes "stack") rows }
 
 -- the form of a name
 abbrev pub form_named : Text → Option Form
@@ -190,16 +195,16 @@ have_pages [] = false
 have_pages names = list_all has_page names
 
 -- for people names that have pages ask for these, all else for reports
-abbrev pub explain_of : Form → Colour → ℕ → Option Text → Choice → Bool → List Text → Asked
-explain_of Human colour states journal warnings is_c files =
-    if have_pages files then Pages files else Explain Human colour states journal warnings is_c files
-explain_of form colour states journal warnings is_c files = Explain form colour states journal warnings is_c files
+abbrev pub explain_of : Form → Colour → SearchChoice → Option Text → Choice → Bool → List Text → Asked
+explain_of Human colour search journal warnings is_c files =
+    if have_pages files then Pages files else Explain Human colour search journal warnings is_c files
+explain_of form colour search journal warnings is_c files = Explain form colour search journal warnings is_c files
 
 -- in a form, with colours at some time and with the file into which a journal is written;
 -- a kind of warning that there isn't asks for nothing
 unfoldable pub explain_with : List Row → Form → Colour → Option Text → Option Asked
 explain_with rows form colour journal =
-    option_map (λ allowed. explain_of form colour (states_of rows) journal
+    option_map (λ allowed. explain_of form colour (search_of rows) journal
     (record { strict = is_set (codes "strict") rows; allowed = allowed })
     (is_set (codes "c") rows) (files_of rows)) (allowed_of rows)
 

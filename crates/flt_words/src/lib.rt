@@ -7,7 +7,7 @@ mod shown;
 mod words;
 mod workers;
 
-pub use request::{Colour, Form, FormatMode, Part, Request, WarningChoice};
+pub use request::{Colour, Form, FormatMode, Part, Request, SearchChoice, WarningChoice};
 pub use shown::visible;
 pub use words::{DEFAULT_STATES, ask_to_serve, read_words};
 pub use workers::Workers;

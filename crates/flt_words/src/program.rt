@@ -135,6 +135,17 @@ fn states_argument<'a>(alloc: Global) -> Arg<'a>
         )
 }
 
+/// The flag `--stack`.
+fn stack_argument<'a>(alloc: Global) -> Arg<'a>
+    ensures rule { rule_of result ≡ spec.stack_rule }
+    ensures own { result.global ≡ false }
+{
+    Arg::new(alloc, "stack")
+        .long("stack")
+        .action(ArgAction::SetTrue)
+        .help("Take the FILEs for the filters of one stack: look for runs of all of them first")
+}
+
 /// The option `--journal`.
 fn written_argument<'a>(alloc: Global) -> Arg<'a>
     ensures rule { rule_of result ≡ spec.written_rule }
@@ -400,7 +411,7 @@ fn bare_explain<'a>(alloc: Global) -> Command<'a>
             "Says all that is wrong with filters' texts, where it comes from, how to get there and how to fix it",
         )
         .override_usage(
-            "fltstack explain [--form <FORM>] [--color <WHEN>] [--states <N>] [--journal <JOURNAL>] [--runs] [--strict] [--allow <KIND>]... [--c] <FILE>...\n       fltstack explain <R01 to R15, W00 to W07, V1 to V8, E01 to E08, a call or a status>...",
+            "fltstack explain [--form <FORM>] [--color <WHEN>] [--states <N>] [--stack] [--journal <JOURNAL>] [--runs] [--strict] [--allow <KIND>]... [--c] <FILE>...\n       fltstack explain <R01 to R15, W00 to W07, V1 to V8, E01 to E08, a call or a status>...",
         )
         .after_help(
             "Prints a report for each finding, with a run that breaks something because of it, and last what `analyse`\nsays (exit 1), or a report for each warning and `nothing found` (exit 0; with `--strict` warnings make it 1).\nWhere a text doesn't parse, it says where and why (exit 2). `--form short` prints a line for each of them,\n`--form lines` a JSON object, `--form sarif` a SARIF document. `--form html` is a page with the texts, the reports and\npictures. A comment `# allow W03: why`, alone on the line before a statement, leaves a warning out there. Of rules,\nwarnings, violations, faults of a text, calls or statuses it prints the pages (exit 0); `./R02` is a file of that name.\nOf a C file (`.c`, `.h`, `.cc`, `.cpp`; with `--c` any) it reads the annotations, and its places are those of the C\nfile; first it warns where C and annotations differ, as `compare` does.\nErrors go to the standard error with exit 2.\n\nExample: fltstack explain examples/leaked_context.flt",
@@ -413,6 +424,7 @@ fn explain_command<'a>(alloc: Global) -> Result<Command<'a>, AllocError>
     let command = with_argument(Ok(bare_explain(alloc)), form_argument(alloc));
     let command = with_argument(command, colour_argument(alloc));
     let command = with_argument(command, states_argument(alloc));
+    let command = with_argument(command, stack_argument(alloc));
     let command = with_argument(command, written_argument(alloc));
     let command = with_argument(command, runs_argument(alloc));
     let command = with_argument(command, strict_argument(alloc));

@@ -30,6 +30,15 @@ pub enum Colour {
     Never,
 }
 
+/// The settings of `explain` for runs.
+#[derive(Clone, Copy, Debug)]
+pub struct SearchChoice {
+    /// The number of states that the search for runs of a text expands at most.
+    pub states: u32,
+    /// Whether the texts are those of one stack: then runs of all of them are looked for first, else runs of each alone.
+    pub is_stack: bool,
+}
+
 /// The settings of `explain` for warnings.
 #[derive(Debug, Drop)]
 pub struct WarningChoice<'a> {
@@ -104,8 +113,7 @@ pub enum Request<'a> {
     Explain {
         form: Form,
         colour: Colour,
-        /// The number of states that the search for runs of a text expands at most.
-        states: u32,
+        search: SearchChoice,
         /// The file into which the journal of the first finding that has one is written.
         journal: Option<&'a str>,
         warnings: WarningChoice<'a>,

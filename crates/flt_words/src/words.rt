@@ -10,7 +10,7 @@ ghost use Rattle.flt_words.specs.Request.{Serve, asked_of, choice_of};
 ghost use Rattle.flt_words.specs.Words as spec;
 
 use crate::program::{program, program_for};
-use crate::request::{Colour, Form, FormatMode, Part, Request, WarningChoice};
+use crate::request::{Colour, Form, FormatMode, Part, Request, SearchChoice, WarningChoice};
 use crate::shown::visible;
 use crate::workers::Workers;
 use clap::ArgMatches;
@@ -27,19 +27,19 @@ pub const DEFAULT_STATES: u32 = 40_000;
 
 /// The error if no form has the given name.
 const NO_FORM: &str =
-    "error: `--form` takes `human`, `html`, `short`, `lines` or `sarif`\n\nUsage: fltstack explain [--form <FORM>] [--color <WHEN>] [--states <N>] [--journal <JOURNAL>] [--runs] [--strict] [--allow <KIND>]... [--c] <FILE>...\n\nFor more information, try '--help'.\n";
+    "error: `--form` takes `human`, `html`, `short`, `lines` or `sarif`\n\nUsage: fltstack explain [--form <FORM>] [--color <WHEN>] [--states <N>] [--stack] [--journal <JOURNAL>] [--runs] [--strict] [--allow <KIND>]... [--c] <FILE>...\n\nFor more information, try '--help'.\n";
 
 /// The error if no time of colours has the given name.
 const NO_COLOUR: &str =
-    "error: `--color` takes `auto`, `always` or `never`\n\nUsage: fltstack explain [--form <FORM>] [--color <WHEN>] [--states <N>] [--journal <JOURNAL>] [--runs] [--strict] [--allow <KIND>]... [--c] <FILE>...\n\nFor more information, try '--help'.\n";
+    "error: `--color` takes `auto`, `always` or `never`\n\nUsage: fltstack explain [--form <FORM>] [--color <WHEN>] [--states <N>] [--stack] [--journal <JOURNAL>] [--runs] [--strict] [--allow <KIND>]... [--c] <FILE>...\n\nFor more information, try '--help'.\n";
 
 /// The error if no kind of warning has the given name.
 const NO_KIND: &str =
-    "error: `--allow` takes `W00` to `W07`, and `C00` to `C05`\n\nUsage: fltstack explain [--form <FORM>] [--color <WHEN>] [--states <N>] [--journal <JOURNAL>] [--runs] [--strict] [--allow <KIND>]... [--c] <FILE>...\n\nFor more information, try '--help'.\n";
+    "error: `--allow` takes `W00` to `W07`, and `C00` to `C05`\n\nUsage: fltstack explain [--form <FORM>] [--color <WHEN>] [--states <N>] [--stack] [--journal <JOURNAL>] [--runs] [--strict] [--allow <KIND>]... [--c] <FILE>...\n\nFor more information, try '--help'.\n";
 
 /// The error if a journal would be written to the standard input.
 const NO_JOURNAL: &str =
-    "error: `--journal` takes the name of a file\n\nUsage: fltstack explain [--form <FORM>] [--color <WHEN>] [--states <N>] [--journal <JOURNAL>] [--runs] [--strict] [--allow <KIND>]... [--c] <FILE>...\n\nFor more information, try '--help'.\n";
+    "error: `--journal` takes the name of a file\n\nUsage: fltstack explain [--form <FORM>] [--color <WHEN>] [--states <N>] [--stack] [--journal <JOURNAL>] [--runs] [--strict] [--allow <KIND>]... [--c] <FILE>...\n\nFor more information, try '--help'.\n";
 
 /// The error if a picture would be written to the standard input.
 const NO_PICTURE: &str =
@@ -133,6 +133,16 @@ fn is_set(matches: &ArgMatches, id: &str) -> bool
     match matches.get_str(id) {
         Some(text) => text == "true",
         None => false,
+    }
+}
+
+/// How runs are looked for, as `--states` and `--stack` say.
+fn search_of(matches: &ArgMatches) -> SearchChoice
+    ensures { result ≡ spec.search_of (rows_of (found_of matches.now)) }
+{
+    SearchChoice {
+        states: states_of(matches),
+        is_stack: is_set(matches, "stack"),
     }
 }
 
@@ -354,13 +364,13 @@ fn have_pages(names: &[&str]) -> bool
 fn explain_of<'a>(
     form: Form,
     colour: Colour,
-    states: u32,
+    search: SearchChoice,
     journal: Option<&'a str>,
     warnings: WarningChoice<'a>,
     is_c: bool,
     files: Vec<&'a str>,
 ) -> Request<'a>
-    ensures { asked_of result ≡ Some (spec.explain_of form colour states (option_map (λ name. name.now) journal.entry)
+    ensures { asked_of result ≡ Some (spec.explain_of form colour search (option_map (λ name. name.now) journal.entry)
         (choice_of warnings.entry) is_c (map (λ name. name.now) files.entry.items)) }
 {
     match form {
@@ -368,7 +378,7 @@ fn explain_of<'a>(
         _ => Request::Explain {
             form,
             colour,
-            states,
+            search,
             journal,
             warnings,
             is_c,
@@ -401,7 +411,7 @@ fn explain_with<'a>(
     Ok(explain_of(
         form,
         colour,
-        states_of(explain),
+        search_of(explain),
         journal,
         warnings,
         is_c,

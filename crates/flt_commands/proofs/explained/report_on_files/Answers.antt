@@ -20,7 +20,7 @@ returns-in_err-before-clause-memory g c =
 
 pub returns-clause-answered : goal.returns-clause-answered
 returns-clause-answered g c =
-    λ colour shown warnings look chosen allowed. let request = Explain c.args.asked.form colour c.args.asked.states
+    λ colour shown warnings look chosen allowed. let request = Explain c.args.asked.form colour c.args.asked.search
     (option_map (λ name. name.now) c.args.asked.journal) warnings c.args.asked.is_c (map (λ name. name.now) c.args.files.now) in
     let said = rw (look, chosen, allowed) at c.in_ok-said.ensures.said in
     let own = said_of c.in_ok-said.said in
@@ -33,7 +33,7 @@ returns-clause-answered g c =
 
 pub returns-clause-quiet : goal.returns-clause-quiet
 returns-clause-quiet g c =
-    λ colour warnings. quiet_for c.args.asked.form colour c.args.asked.states _ warnings c.args.asked.is_c _ _ _ _
+    λ colour warnings. quiet_for c.args.asked.form colour c.args.asked.search _ warnings c.args.asked.is_c _ _ _ _
     c.in_ok-before.ensures.found c.report_on_explanation.ensures.reported c.report_on_explanation.ensures.quiet
 
 pub returns-clause-sent : goal.returns-clause-sent

@@ -1,5 +1,6 @@
 use Rattle.std.proofs.Common.{◌≡◌, Err, rules}
 use Rattle.flt_commands_explain.proofs.Explaining.{coded_as, cut_named, cut_read, explained_of, sent_of_said, unread_of_said}
+use Rattle.flt_commands_explain.specs.Explain.{search_of}
 use Rattle.flt_commands_explain.specs.declared.fault.CommandFault.TheVariants.{OutOfMemory}
 use Rattle.flt_commands_explain.proofs.explain.explain_files.Goals as goal
 
@@ -18,7 +19,7 @@ returns-in_err-said-clause-memory g c =
 pub returns-clause-said : goal.returns-clause-said
 returns-clause-said g c =
     rw c.bytes_in.ensures
-    (explained_of _ _ _ c.args.asked.options c.args.asked.states _ _ _ _ c.in_ok-read.field-0 _ _ _ _ _ _ c.in_ok-read.ensures
+    (explained_of _ _ _ c.args.asked.options (search_of c.args.asked.search) _ _ _ _ c.in_ok-read.field-0 _ _ _ _ _ _ c.in_ok-read.ensures
     (rw (c.as_slice-2.ensures.value, c.as_slice-3.ensures.value) at c.in_ok-add_refused.ensures)
     (coded_as _ _ c.codes_in.ensures)
     (rw (c.as_slice-5.ensures.value, c.as_slice-6.ensures.value) at c.in_ok-told.ensures.told)

@@ -1,5 +1,5 @@
 use Rattle.std.proofs.Common.{None}
-use Rattle.flt_commands_explain.specs.Explain.{look_of, told_name}
+use Rattle.flt_commands_explain.specs.Explain.{look_of, search_of, told_name}
 use Rattle.flt_commands_explain.proofs.Explaining.{joined_cut, joined_out, joined_told}
 use Rattle.flt_commands_explain.proofs.MadeSources.{all_within}
 use Rattle.flt_commands_explain.proofs.explain.told_joined.Goals as goal
@@ -25,7 +25,7 @@ returns-clause-memory g c =
     c.in_ok-drifted.drifted.items c.in_ok-sources.sources.items c.requires
     (c.in_ok-own.ensures (told_name c.args.asked.form) (rw c.as_slice.ensures.value c.in_ok-names.ensures))
     c.in_ok-drifted.ensures (rw (c.as_slice-2.ensures.value, c.as_slice-3.ensures.value) at c.in_ok-sources.ensures)
-    c.args.asked.options c.args.asked.states _ _ c.explain_after.result
+    c.args.asked.options (search_of c.args.asked.search) _ _ c.explain_after.result
     (rw (c.as_slice-4.ensures.value, c.as_slice-5.ensures.value) at c.explain_after.ensures.memory)
 
 pub returns-clause-cut : goal.returns-clause-cut
@@ -34,5 +34,5 @@ returns-clause-cut g c =
     c.in_ok-drifted.drifted.items c.in_ok-sources.sources.items c.requires
     (c.in_ok-own.ensures (told_name c.args.asked.form) (rw c.as_slice.ensures.value c.in_ok-names.ensures))
     c.in_ok-drifted.ensures (rw (c.as_slice-2.ensures.value, c.as_slice-3.ensures.value) at c.in_ok-sources.ensures)
-    c.args.asked.options c.args.asked.states _ _ c.explain_after.result
+    c.args.asked.options (search_of c.args.asked.search) _ _ c.explain_after.result
     (rw (c.as_slice-4.ensures.value, c.as_slice-5.ensures.value) at c.explain_after.ensures.cut)

@@ -1,7 +1,7 @@
 use Rattle.std.proofs.Common.{◌≡◌, codes, ◌∙◌, ap, map, sym, Some, option_map}
 use Rattle.clap.specs.Walk.{rows_of}
 use Rattle.clap.specs.Matches.{found_of}
-use Rattle.flt_words.specs.Words.{allowed_of, explain_of, explain_with, files_of, is_set, states_of}
+use Rattle.flt_words.specs.Words.{allowed_of, explain_of, explain_with, files_of, is_set, search_of}
 use Rattle.flt_words.proofs.words.explain_with.Goals as goal
 
 pub returns : goal.returns
@@ -10,6 +10,6 @@ returns c =
     let rows = rows_of (found_of c.args.explain.now) in
     let allowed : Some (map (λ s. s.now) c.in-Some.allowed.items) ≡ allowed_of rows =
     sym (ap (option_map (λ kinds. map (λ s. s.now) kinds.items)) c.in-Some.is) ∙ c.in_ok-allowed.ensures in
-    rw (c.explain_of.ensures, c.is_set.ensures, c.is_set-is_c.ensures, c.states_of.ensures, c.in_ok-files.ensures)
-    (ap (option_map (λ kinds. explain_of c.args.form c.args.colour (states_of rows) (option_map (λ s. s.now) c.args.journal)
+    rw (c.explain_of.ensures, c.is_set.ensures, c.is_set-is_c.ensures, c.search_of.ensures, c.in_ok-files.ensures)
+    (ap (option_map (λ kinds. explain_of c.args.form c.args.colour (search_of rows) (option_map (λ s. s.now) c.args.journal)
     (record { strict = is_set (codes "strict") rows; allowed = kinds }) (is_set (codes "c") rows) (files_of rows))) allowed)

@@ -8,13 +8,14 @@ use Rattle.flt_explain_outcomes.proofs.noting.Stage.each_note.Goals as goal
 
 pub last_of-outcome-requires : goal.last_of-outcome-requires
 last_of-outcome-requires c = record {
-  some = some_left c.args.self.now.trees.now c.args.known c.args.reported.now c.loop-next.next-index c.loop-next.outcomes.items
+  some = some_left c.args.self.now.search.is_stack c.args.self.now.trees.now c.args.known c.args.reported.now c.loop-next.next-index
+      c.loop-next.outcomes.items
       c.loop-next-test.true c.loop-next.invariant.outcomes;
 }
 
 pub note-requires-clause-outcome : goal.note-requires-clause-outcome
 note-requires-clause-outcome c =
-    (next_outcome c.args.self.now.trees.now c.args.known c.args.reported.now c.loop-next.next-index
+    (next_outcome c.args.self.now.search.is_stack c.args.self.now.trees.now c.args.known c.args.reported.now c.loop-next.next-index
     (get_or c.args.reported.now c.loop-next.next-index unreported)
     c.loop-next.outcomes.items c.last_of-outcome.new.outcomes.items c.last_of-outcome.result c.loop-next-test.true (search rules)
     c.loop-next.invariant.outcomes c.last_of-outcome.ensures).0
@@ -33,10 +34,11 @@ loop-next-preserved c =
     let one = get_or c.args.reported.now i unreported in
     let added = c.in_ok-push.ensures.ok in
     record {
-      outcomes = (next_outcome c.args.self.now.trees.now c.args.known c.args.reported.now i one c.loop-next.outcomes.items
+      outcomes = (next_outcome c.args.self.now.search.is_stack c.args.self.now.trees.now c.args.known c.args.reported.now i one
+          c.loop-next.outcomes.items
           c.last_of-outcome.new.outcomes.items c.last_of-outcome.result c.loop-next-test.true (search rules)
           c.loop-next.invariant.outcomes c.last_of-outcome.ensures).1;
-      noted = notes_more _ c.args.known c.loop-next.each c.push.new.self c.in_ok-note.note c.loop-next.invariant.noted
+      noted = notes_more _ _ c.args.known c.loop-next.each c.push.new.self c.in_ok-note.note c.loop-next.invariant.noted
           (rw c.as_slice.ensures at c.in_ok-note.ensures.noted) added;
       reported = next_reported c.args.reported.now i one c.loop-next.each c.push.new.self c.in_ok-note.note c.loop-next-test.true
           (search rules) c.loop-next.invariant.reported c.in_ok-note.ensures.reported added;

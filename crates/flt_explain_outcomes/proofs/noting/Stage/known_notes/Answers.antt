@@ -10,9 +10,9 @@ text_notes-requires g c = record {
 }
 
 pub returns-in_default : goal.returns-in_default
-returns-in_default g c = no_notes _ _ _ (none_found c.args.known.found.now c.in_default.len_below) c.new.ensures
+returns-in_default g c = no_notes _ _ _ _ (none_found c.args.known.found.now c.in_default.len_below) c.new.ensures
 
 pub returns : goal.returns
 returns g c =
-    all_notes _ _ c.in_ok-reported.reported c.in_ok-noted.noted c.in_ok-reported.ensures.are c.in_ok-reported.ensures.firsts
+    all_notes _ _ _ c.in_ok-reported.reported c.in_ok-noted.noted c.in_ok-reported.ensures.are c.in_ok-reported.ensures.firsts
     (rw c.as_slice.ensures at c.in_ok-noted.ensures)

@@ -17,6 +17,7 @@ notes_of-requires g c = record {
 
 pub loop-studied-preserved : goal.loop-studied-preserved
 loop-studied-preserved g c =
-    one_text_more c.args.self.now.trees.now c.args.each.now c.loop-studied.studied-index c.studied-item.result c.loop-studied.all
+    one_text_more c.args.self.now.search.is_stack c.args.self.now.trees.now c.args.each.now c.loop-studied.studied-index
+    c.studied-item.result c.loop-studied.all
     c.in_ok-own.own c.append.new.self c.requires.texts c.loop-studied-test.true c.studied-item.is c.loop-studied.invariant
     c.in_ok-own.ensures c.in_ok-append.ensures

@@ -11,7 +11,8 @@ returns-in_ok-promise_and_warnings-in-empty-clause-print g c =
 
 pub returns-in_ok-promise_and_warnings-in-empty-clause-notes : goal.returns-in_ok-promise_and_warnings-in-empty-clause-notes
 returns-in_ok-promise_and_warnings-in-empty-clause-notes g c =
-    no_notes c.args.self.now.stage.trees.now c.args.known _ (none_found c.args.known.found.now c.in-empty.len_below) refl
+    no_notes c.args.self.now.stage.search.is_stack c.args.self.now.stage.trees.now c.args.known _ (none_found c.args.known.found.now
+    c.in-empty.len_below) refl
 
 pub returns-in-len1-up-clause-print : goal.returns-in-len1-up-clause-print
 returns-in-len1-up-clause-print g c =

@@ -27,5 +27,5 @@ returns-clause-print g c =
 
 pub returns-clause-notes : goal.returns-clause-notes
 returns-clause-notes g c =
-    all_notes _ _ c.in_ok-reported.reported c.in_ok-noted.noted c.in_ok-reported.ensures.are c.in_ok-reported.ensures.firsts
+    all_notes _ _ _ c.in_ok-reported.reported c.in_ok-noted.noted c.in_ok-reported.ensures.are c.in_ok-reported.ensures.firsts
     (rw c.as_slice.ensures at c.in_ok-noted.ensures)

@@ -59,7 +59,7 @@ report-requires g c = record {
 -- ---- no text
 
 pub returns-in_default-clause-notes : goal.returns-in_default-clause-notes
-returns-in_default-clause-notes g c = empty_notes _ c.args.each.now _ c.in_default.len_below c.new.ensures.noted
+returns-in_default-clause-notes g c = empty_notes _ _ c.args.each.now _ c.in_default.len_below c.new.ensures.noted
 
 pub returns-in_default-clause-said : goal.returns-in_default-clause-said
 returns-in_default-clause-said g c = rw (c.new.ensures.bytes, c.new.ensures.noted) nothing
@@ -69,10 +69,10 @@ returns-in_default-clause-said g c = rw (c.new.ensures.bytes, c.new.ensures.note
 pub returns-in_err-put_report-clause-memory : goal.returns-in_err-put_report-clause-memory
 returns-in_err-put_report-clause-memory g c =
     let fails : c.from_residual.result ≡ Err c.in_err-put_report.field-0.0 = search rules in
-    let states = c.args.self.now.stage.states in
+    let search = c.args.self.now.stage.search in
     let options = c.args.self.now.options in
     let sources = sources_read c.args.each.now in
-    rw fails (λ e. subst (λ o. IsCut options sources states (g.O.Sink.taken c.args.out.now) (g.O.Sink.taken o))
+    rw fails (λ e. subst (λ o. IsCut options sources search (g.O.Sink.taken c.args.out.now) (g.O.Sink.taken o))
     (sym (c.in_err-put_report.ensures.memory e))
     (cut_here (look_of c.args.self.now) c.args.self.now.stage.trees.now c.args.self.now.files.now c.args.each.now
     (length c.args.each.now - 1) c.loop-studied.studied-index c.loop-studied.printed
