@@ -1,12 +1,13 @@
 -- What a server's run on a new server comes to, the report on a document, and who asks for a server.
 use Rattle.std.proofs.Common.{◌≡◌, ◌≢◌, ℕ, Option, Result, Ok, Err, IfErr, IfOk}
 use Rattle.flt_files.specs.Inputs.{Text}
-use Rattle.flt_commands_explain.specs.Served.{IsNew, IsReport, IsSaid, MayAnswer, Serves, ServesSoFar, as_string}
+use Rattle.flt_commands_explain.specs.Served.{IsNew, IsReport, IsSaidOf, MayAnswer, Serves, ServesSoFar, as_string}
 use Rattle.flt_server_frames.specs.Handling.{IsServed, IsServedSoFar}
 use Rattle.flt_server_frames.specs.declared.fault.ServeFault.{ServeFault}
 use Rattle.flt_server_frames.specs.declared.fault.ServeFault.TheVariants.{Write}
 use Rattle.flt_commands_explain.specs.declared.serving.Explaining.{Explaining}
 use Rattle.flt_server.specs.declared.server.Server.{Server}
+use Rattle.flt_server_session.specs.declared.document.KeptText.{KeptText}
 
 module _ (first : Server Explaining) (is : IsNew first) where
   -- it ended with a status
@@ -21,8 +22,8 @@ module _ (first : Server Explaining) (is : IsNew first) where
   serves_so_far had old new (Ok status) served = served
   serves_so_far had old new (Err fault) served = λ other. (first, is, served other)
 
--- what `explain` says, written as a string, is the report on a document
-pub reported : {V : Type 0} {E : Type 0} (items : V → Text) (name text printed : Text) (r : Result V E) → IsSaid name text printed →
-    IfOk r (λ v. items v ≡ as_string printed) → IfOk r (λ v. IsReport name text (items v))
+-- what is said, written as a string, is the report on a document
+pub reported : {V : Type 0} {E : Type 0} (items : V → Text) (name : Text) (text : KeptText) (printed : Text) (r : Result V E) →
+    IsSaidOf name text printed → IfOk r (λ v. items v ≡ as_string printed) → IfOk r (λ v. IsReport name text (items v))
 reported items name text printed (Ok v) is written = (printed, is, written)
 reported items name text printed (Err e) is written = written

@@ -1,5 +1,6 @@
 -- What `serve` reads and writes, and its exit status. This project's own program.
-use Rattle.std.specs.Prelude.{◌≡◌, ℕ, List, [], ◌∷◌, ◌++◌, ◌⊎◌, Bool, false, true, Option, None, Some, string_bytes}
+use Rattle.std.specs.Fmt.{decimal}
+use Rattle.std.specs.Prelude.{◌≡◌, ℕ, List, [], ◌∷◌, ◌++◌, ◌⊎◌, Bool, false, true, Option, None, Some, codes, string_bytes}
 use Rattle.std.specs.Str.Lossy.{utf8_lossy}
 use Rattle.json.specs.Json.{string}
 use Rattle.json.specs.Print.{print}
@@ -13,6 +14,7 @@ use Rattle.flt_explain_outcomes.specs.declared.noted.Note.{Note}
 use Rattle.flt_explain_texts.specs.declared.sources.Source.{Source}
 use Rattle.flt_joined.specs.Texts.{AreAnnotations, Given}
 use Rattle.flt_commands_explain.specs.Sources.{IsSourceOf}
+use Rattle.flt_words.specs.Shown.{visible}
 use Rattle.flt_words.specs.declared.request.Form.TheVariants.{Human}
 use Rattle.flt_commands_explain.specs.Allowed.{options_of}
 use Rattle.flt_commands_explain.specs.Annotated.{AreFlawed}
@@ -20,8 +22,11 @@ use Rattle.flt_commands_explain.specs.Drifts.{AreDrifted, drifts_told}
 use Rattle.flt_files.specs.Inputs.{Text}
 use Rattle.flt_commands_explain.specs.Remarks.{unread_lines}
 use Rattle.flt_commands_explain.specs.declared.serving.Explaining.{Explaining}
+use Rattle.flt_server.specs.Documents.{most_bytes}
 use Rattle.flt_server.specs.declared.server.Server.{Server}
 use Rattle.flt_server_session.specs.Answers.{IsHandled}
+use Rattle.flt_server_session.specs.declared.document.KeptText.{KeptText}
+use Rattle.flt_server_session.specs.declared.document.KeptText.TheVariants.{Whole, TooLong}
 use Rattle.flt_server_session.specs.declared.phase.Phase.TheVariants.{Fresh}
 
 -- how `explain` prints without options
@@ -72,13 +77,25 @@ IsSaidIf false name file printed = IsExplained (record { name = name; text = fil
 abbrev pub IsSaid : Text → Text → Text → Type 0
 IsSaid name file printed = IsSaidIf (is_c_file name) name file printed
 
+-- the line on a document of this name and of so many bytes, which are too many to be kept
+abbrev pub too_long_line : Text → ℕ → Text
+too_long_line name length =
+    codes "error: `" ++ (visible name ++ (codes "` isn't read: it has " ++ (decimal length
+    ++ codes " bytes, too many for a report while it is open: run `fltstack explain` on the file\n")))
+
+-- this is said of a document of this name of which this is kept: what `explain` says of such a file, or that it is too long, whatever its
+-- bytes are
+abbrev pub IsSaidOf : Text → KeptText → Text → Type 0
+IsSaidOf name (Whole bytes) printed = IsSaid name bytes printed
+IsSaidOf name (TooLong length) printed = printed ≡ too_long_line name length
+
 -- bytes as a JSON string
 abbrev pub as_string : Text → Text
 as_string bytes = print (json_tokens (string (utf8_lossy bytes)))
 
--- the report on a document of this name and this text: what `explain` says of such a file, as a JSON string
-abbrev pub IsReport : Text → Text → Text → Type 0
-IsReport name text report = (printed : Text) × IsSaid name text printed × (report ≡ as_string printed)
+-- the report on a document of this name of which this is kept: what is said of it, as a JSON string
+abbrev pub IsReport : Text → KeptText → Text → Type 0
+IsReport name text report = (printed : Text) × IsSaidOf name text printed × (report ≡ as_string printed)
 
 -- a server whose client has sent nothing yet
 abbrev pub IsNew : Server Explaining → Type 0
@@ -86,7 +103,7 @@ IsNew server = (server.session.phase ≡ Fresh) × (server.session.documents ≡
 
 -- a server in the first state may answer this body so, and is then in the second
 abbrev pub MayAnswer : Server Explaining → Text → Reply → Server Explaining → Type 0
-MayAnswer old body reply new = IsHandled IsReport old.session body reply new.session
+MayAnswer old body reply new = IsHandled most_bytes IsReport old.session body reply new.session
 
 -- a new server answered the frames of a stream one after the other, and ended with this status. The first two are the bytes of the stream
 -- before and after it, the others what a writer had taken before and after it

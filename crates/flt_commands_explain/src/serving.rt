@@ -21,8 +21,8 @@ use flt_model::{Sink, WriteFault};
 use flt_places::Files;
 use flt_server::Server;
 use flt_server_frames::{Incoming, ServeFault, serve};
-use flt_server_session::Reporter;
-use flt_words::{DEFAULT_STATES, Form};
+use flt_server_session::{KeptText, Reporter};
+use flt_words::{DEFAULT_STATES, Form, visible};
 use json::{Value, to_vec};
 use std::alloc::{AllocError, Global};
 use std::slice::from_ref;
@@ -129,6 +129,27 @@ fn printed_for(alloc: Global, name: &str, file: &[u8]) -> Result<Vec<u8>, AllocE
     printed(alloc, &file)
 }
 
+/// The line on a document of `length` bytes that is too long to be kept.
+fn printed_of_too_long(alloc: Global, name: &str, length: usize) -> Result<Vec<u8>, AllocError>
+    ensures { IfOk result (λ out. out.items ≡ spec.too_long_line name.now length) }
+{
+    let name = visible(alloc, name)?;
+    let line = format!(in alloc;
+        "error: `{name}` isn't read: it has {length} bytes, too many for a report while it is open: run `fltstack explain` on the file\n"
+    )?;
+    Ok(line.into_bytes())
+}
+
+/// The output of `explain` for a document of which this is kept.
+fn printed_of_kept(alloc: Global, name: &str, text: &KeptText) -> Result<Vec<u8>, AllocError>
+    ensures { IfOk result (λ out. spec.IsSaidOf name.now text.now out.items) }
+{
+    match text {
+        KeptText::Whole(bytes) => printed_for(alloc, name, bytes.as_slice()),
+        KeptText::TooLong(length) => printed_of_too_long(alloc, name, *length),
+    }
+}
+
 /// Bytes as a JSON string; bytes that aren't UTF-8 become U+FFFD.
 fn as_string(alloc: Global, bytes: &[u8]) -> Result<Vec<u8>, AllocError>
     ensures { IfOk result (λ out. out.items ≡ spec.as_string bytes.now) }
@@ -138,15 +159,16 @@ fn as_string(alloc: Global, bytes: &[u8]) -> Result<Vec<u8>, AllocError>
     to_vec(alloc, &value)
 }
 
-/// Reports on a text as `explain` does, with runs, and on a C file by its annotations.
+/// Reports on a text as `explain` does, with runs, and on a C file by its annotations. Of a document that is too long to be kept it says no
+/// more than that.
 #[derive(Clone, Copy)]
 pub struct Explaining;
 
 impl Reporter for Explaining {
     ghost reports = { spec.IsReport };
 
-    fn report(&self, alloc: Global, uri: &str, text: &[u8]) -> Result<Vec<u8>, AllocError> {
-        let printed = printed_for(alloc, uri, text)?;
+    fn report(&self, alloc: Global, uri: &str, text: &KeptText) -> Result<Vec<u8>, AllocError> {
+        let printed = printed_of_kept(alloc, uri, text)?;
         as_string(alloc, printed.as_slice())
     }
 }
@@ -154,7 +176,8 @@ impl Reporter for Explaining {
 /// Serves a client that has sent nothing yet, and returns the exit status: 0 after the client's `shutdown` and `exit`,
 /// 1 after `exit` alone, at the end of `input`, in a frame that this end cuts short, and at bytes that aren't a frame's header.
 /// Nothing is read after the frame of `exit`, and the messages of an answer go out before the next frame is read. A body of more than
-/// 16,777,216 bytes is read past and answered by an error and a message to the user.
+/// 16,777,216 bytes is read past and answered by an error and a message to the user. Of a text of more than 65,536 bytes and of a C file of
+/// more than 1,048,576 nothing is kept but the number of its bytes.
 ///
 /// # Errors
 ///

@@ -1,5 +1,8 @@
 //! The language of filters, as a session asks about it.
 
+ghost use Rattle.std.specs.Prelude.{◌≡◌};
+ghost use Rattle.flt_server.specs.Documents as spec;
+
 use crate::actions::actions;
 use crate::annotated::annotations_in;
 use crate::completion::completion;
@@ -11,8 +14,12 @@ use crate::places::{Document, document_in_c, document_of};
 use crate::symbols::symbols;
 use crate::uses::{definition, references};
 use flt_c::is_c_file;
+use flt_rules::MAX_TEXT;
 use flt_server_session::{Language, OpenText, Question};
 use std::alloc::{AllocError, Global};
+
+/// How many bytes a C file may have that is open. One of more than a text may have is kept for reports alone.
+const MAX_C_FILE: usize = 1_048_576;
 
 /// The language of filters.
 #[derive(Clone, Copy)]
@@ -77,6 +84,12 @@ fn result_in_c(
 }
 
 impl Language for Filters {
+    ghost most = { spec.most_bytes };
+
+    fn most_bytes(&self, uri: &str) -> usize {
+        if is_c_file(uri) { MAX_C_FILE } else { MAX_TEXT }
+    }
+
     fn diagnostics(&self, alloc: Global, open: OpenText<'_>) -> Result<Vec<u8>, AllocError> {
         if is_c_file(open.uri) {
             return diagnostics_in_c(alloc, open);
@@ -96,5 +109,9 @@ impl Language for Filters {
         }
         let document = document_of(alloc, open)?;
         result_of(alloc, &document, question)
+    }
+
+    fn result_of_too_long(&self, alloc: Global, question: Question) -> Result<Vec<u8>, AllocError> {
+        result_nowhere(alloc, question)
     }
 }

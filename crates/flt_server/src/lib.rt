@@ -2,6 +2,8 @@
 //! its annotations, and places are those of the C file. It exports `Server`, which answers the bodies of messages; `flt_server_frames`
 //! reads and writes them, and `flt_server_session` knows the protocol.
 //!
+//! `specs/Documents.antt` says how many bytes a document may have that is kept whole.
+//!
 //! An answer is proved to be what `flt_server_session` says of it. The text of a result, as the words of a hover, is only tested. A
 //! `Reporter` of `flt_server_session` makes the reports that clients ask for.
 #![tactic(auto)]

@@ -10,9 +10,11 @@ use Rattle.flt_server_frames.specs.Frames.{IsShort, IsTooLong}
 use Rattle.flt_server_frames.specs.Handling as handling
 use Rattle.flt_server_frames.specs.declared.handler.MessageAnswer.{MessageAnswer}
 use Rattle.flt_server_session.specs.Commands.{Report, report_asked}
+use Rattle.flt_server_session.specs.Kept.{AreKept}
 use Rattle.flt_server_session.specs.Messages.{Message, malformed, reply, notification, request, message_of}
 use Rattle.flt_server_session.specs.Replies as replies
 use Rattle.flt_server_session.specs.declared.document.Document.{Document}
+use Rattle.flt_server_session.specs.declared.document.KeptText.{KeptText}
 use Rattle.flt_server_session.specs.declared.reply.Refusal.{Refusal}
 use Rattle.flt_server_session.specs.declared.reply.Refusal.TheVariants.{NotJson, NoRequest, UnknownMethod, BadParams, NotInitialized, TooLong}
 use Rattle.flt_server_session.specs.declared.phase.Phase.{Phase}
@@ -125,8 +127,9 @@ abbrev pub report_of_body : Session → Option Json → Option Report
 report_of_body session None = None
 report_of_body session (Some j) = report_of_message session (message_of j) (params_of j)
 
--- the result of a response is the report that is asked for, if one is: of a document of a name and a text it may be written so
-abbrev pub IsReported : (List ℕ → List ℕ → List ℕ → Type 0) → Option Report → Option (List ℕ) → Type 0
+-- the result of a response is the report that is asked for, if one is: of a document of a name, with what is kept of its text, it may be
+-- written so
+abbrev pub IsReported : (List ℕ → KeptText → List ℕ → Type 0) → Option Report → Option (List ℕ) → Type 0
 IsReported reports None r = ⊤
 IsReported reports (Some report) r = (text : List ℕ) × reports report.uri report.text text × (r ≡ Some (replies.answered report.id text))
 
@@ -182,8 +185,9 @@ abbrev pub IsRead : List ℕ → Option Json → Type 0
 IsRead body (Some j) = IsUtf8 body × (document body ≡ Some j)
 IsRead body None = IsUtf8 body → document body ≡ None
 
--- from the first session a body may be answered so, and the second is the session afterwards
-pub record IsAnswered (reports : List ℕ → List ℕ → List ℕ → Type 0)
+-- from the first session a body may be answered so, and the second is the session afterwards: it keeps no more of documents than it may if
+-- the first doesn't. How many bytes a document may have is said by its name
+pub record IsAnswered (most : List ℕ → ℕ) (reports : List ℕ → KeptText → List ℕ → Type 0)
     (old : Session) (body : List ℕ) (answer : handling.Reply) (new : Session) : Type 0 where
   pub read : Option Json
   pub is_read : IsRead body read
@@ -191,6 +195,7 @@ pub record IsAnswered (reports : List ℕ → List ℕ → List ℕ → Type 0)
   pub report : IsReported reports (report_of_body old read) answer.response
   pub ends : answer.ends ≡ end_of_body old.phase read
   pub phase : new.phase ≡ after_body old.phase read
+  pub documents : AreKept most old.documents → AreKept most new.documents
 
 -- ---- bodies that are too long
 
@@ -204,7 +209,7 @@ too_long_reply = record {
 
 -- from the first session any body may be answered so, and the second is the session afterwards: a body that is too long isn't read, and
 -- changes nothing
-pub data IsHandled (reports : List ℕ → List ℕ → List ℕ → Type 0)
+pub data IsHandled (most : List ℕ → ℕ) (reports : List ℕ → KeptText → List ℕ → Type 0)
     (old : Session) (body : List ℕ) (answer : handling.Reply) (new : Session) : Type 0 where
-  by_reading : IsShort body → IsAnswered reports old body answer new → IsHandled reports old body answer new
-  by_length : IsTooLong body → answer ≡ too_long_reply → new ≡ old → IsHandled reports old body answer new
+  by_reading : IsShort body → IsAnswered most reports old body answer new → IsHandled most reports old body answer new
+  by_length : IsTooLong body → answer ≡ too_long_reply → new ≡ old → IsHandled most reports old body answer new

@@ -4,6 +4,7 @@ use Rattle.std.specs.Str.{bytes_eq}
 use Rattle.json.specs.Find.{as_str, at, get}
 use Rattle.json.specs.Json.{Json}
 use Rattle.flt_server_session.specs.declared.document.Document.{Document}
+use Rattle.flt_server_session.specs.declared.document.KeptText.{KeptText}
 
 -- a document has this name
 abbrev pub is_named : List ℕ → Document → Bool
@@ -21,11 +22,11 @@ if_explain (Some command) argument = if bytes_eq command (codes "fltstack.explai
 abbrev pub explained_in : Json → Option (List ℕ)
 explained_in params = if_explain (option_and_then as_str (get (codes "command") params)) (argument_of params)
 
--- the report that a request asks for: the id of the request, and the name and the text of the document
+-- the report that a request asks for: the id of the request, the name of the document, and what is kept of its text
 pub record Report : Type 0 where
   pub id : List ℕ
   pub uri : List ℕ
-  pub text : List ℕ
+  pub text : KeptText
 
 abbrev pub report_on : List ℕ → List ℕ → Option Document → Option Report
 report_on id uri None = None

@@ -1,4 +1,5 @@
 pub mod Answers
 pub mod Commands
+pub mod Kept
 pub mod Messages
 pub mod Replies

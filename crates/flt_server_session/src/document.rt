@@ -2,19 +2,29 @@
 
 ghost use Rattle.std.specs.Prelude.{◌≡◌, ◌<◌, find, length, IfOk, IfSome, option_copied};
 ghost use Rattle.flt_server_session.specs.Commands as spec;
+ghost use Rattle.flt_server_session.specs.Kept as kept;
 
-use crate::language::{Encoding, OpenText};
+use crate::language::Language;
 use sqlite_items::Items;
 use std::alloc::{AllocError, Global};
 
 /// How many documents may be open.
 pub(crate) const MAX_DOCUMENTS: usize = 1000;
 
+/// The part of a document's text that a session keeps.
+#[derive(Drop)]
+pub enum KeptText {
+    /// All of its bytes.
+    Whole(Items<u8>),
+    /// The number of its bytes, which are too many to be kept.
+    TooLong(usize),
+}
+
 /// A document that a client has open.
 #[derive(Drop)]
 pub struct Document {
     pub(crate) uri: Items<u8>,
-    pub(crate) text: Items<u8>,
+    pub(crate) text: KeptText,
 }
 
 /// Where a document is among others, if it is there.
@@ -44,22 +54,29 @@ pub(crate) fn document_of<'a>(documents: &'a [Document], uri: &str) -> Option<&'
     None
 }
 
-pub(crate) fn document_with(alloc: Global, uri: &str, text: &str) -> Result<Document, AllocError>
-    ensures uri { IfOk result (λ d. d.uri ≡ uri.now) }
-    ensures text { IfOk result (λ d. d.text ≡ text.now) }
+/// The part that is kept of a text, where a document may have `most` bytes.
+fn kept_of(alloc: Global, most: usize, text: &str) -> Result<KeptText, AllocError>
+    ensures { IfOk result (kept.IsKeptOf most text.now) }
 {
-    let uri = Items::from_slice(alloc, uri.as_bytes())?;
-    let text = Items::from_slice(alloc, text.as_bytes())?;
-    Ok(Document { uri, text })
+    let length = text.len();
+    if most < length {
+        return Ok(KeptText::TooLong(length));
+    }
+    let bytes = Items::from_slice(alloc, text.as_bytes())?;
+    Ok(KeptText::Whole(bytes))
 }
 
-impl Document {
-    /// The document as a language sees it.
-    pub(crate) fn open<'a>(&'a self, uri: &'a str, encoding: Encoding) -> OpenText<'a> {
-        OpenText {
-            uri,
-            text: self.text.as_slice(),
-            encoding,
-        }
-    }
+/// A document of a language, with the part of its text that is kept.
+pub(crate) fn document_with<L: Language>(
+    alloc: Global,
+    language: &L,
+    uri: &str,
+    text: &str,
+) -> Result<Document, AllocError>
+    ensures uri { IfOk result (λ d. d.uri ≡ uri.now) }
+    ensures text { IfOk result (λ d. kept.IsKeptOf (L.most uri.now) text.now d.text) }
+{
+    let own = Items::from_slice(alloc, uri.as_bytes())?;
+    let text = kept_of(alloc, language.most_bytes(uri), text)?;
+    Ok(Document { uri: own, text })
 }

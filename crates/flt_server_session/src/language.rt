@@ -1,7 +1,9 @@
 //! The trait of a language, and the questions that a session asks it.
 
-ghost use Rattle.std.specs.Prelude.{ℕ, List, IfOk};
+ghost use Rattle.std.specs.Prelude.{◌≡◌, ℕ, List, IfOk};
+ghost use Rattle.flt_server_session.specs.declared.document.KeptText.{KeptText};
 
+use crate::document::KeptText;
 use std::alloc::{AllocError, Global};
 
 /// The unit in which columns are counted.
@@ -44,7 +46,14 @@ pub enum Question {
 
 /// A language whose texts are documents.
 pub trait Language {
-    /// The diagnostics of a document, as a JSON array.
+    // How many bytes a document of this name may have.
+    ghost most: { List ℕ → ℕ };
+
+    /// How many bytes a document of this name may have: a session keeps nothing but the length of a longer one.
+    fn most_bytes(&self, uri: &str) -> usize
+        ensures { result ≡ most uri.now };
+
+    /// The diagnostics of a document of any length, as a JSON array.
     fn diagnostics(&self, alloc: Global, open: OpenText<'_>) -> Result<Vec<u8>, AllocError>;
 
     /// The result of a question, as JSON.
@@ -54,14 +63,17 @@ pub trait Language {
         open: OpenText<'_>,
         question: Question,
     ) -> Result<Vec<u8>, AllocError>;
+
+    /// The result of a question about a document that is too long to be kept, as JSON.
+    fn result_of_too_long(&self, alloc: Global, question: Question) -> Result<Vec<u8>, AllocError>;
 }
 
 /// A reporter on documents.
 pub trait Reporter {
-    // The report on a document of this name and this text may be written so.
-    ghost reports: { List ℕ → List ℕ → List ℕ → Type 0 };
+    // The report on a document of this name, of whose text this is kept, may be written so.
+    ghost reports: { List ℕ → KeptText → List ℕ → Type 0 };
 
     /// The report on a document, as JSON. It may take long: a client asks for it by a command.
-    fn report(&self, alloc: Global, uri: &str, text: &[u8]) -> Result<Vec<u8>, AllocError>
+    fn report(&self, alloc: Global, uri: &str, text: &KeptText) -> Result<Vec<u8>, AllocError>
         ensures { IfOk result (λ report. reports uri.now text.now report.items) };
 }

@@ -1,9 +1,10 @@
 //! The session of a client: its state, and how it answers a body.
 
-ghost use Rattle.std.specs.Prelude.{◌≡◌, ◌≤◌, ◌<◌, [], codes, length, None, Some, IfOk, OnOk, OnErr, option_map};
+ghost use Rattle.std.specs.Prelude.{◌≡◌, ◌≤◌, ◌<◌, ℕ, List, [], codes, length, None, Some, IfOk, OnOk, OnErr, option_map};
 ghost use Rattle.flt_server_frames.specs.Handling.{reply_of};
 ghost use Rattle.flt_server_session.specs.Answers as spec;
 ghost use Rattle.flt_server_session.specs.Commands as commands;
+ghost use Rattle.flt_server_session.specs.Kept.{AreKept};
 ghost use Rattle.flt_server_session.specs.Messages as messages;
 ghost use Rattle.flt_server_session.specs.Replies as replies;
 ghost use Rattle.flt_server_session.specs.Answers.{no_response, a_result, an_error};
@@ -14,8 +15,8 @@ ghost use Rattle.json.specs.Tree.{HasNumbers};
 ghost use Rattle.json.specs.Value.{value_view};
 
 use crate::capabilities::capabilities;
-use crate::document::{Document, MAX_DOCUMENTS, document_of, document_with, position_of};
-use crate::language::{Encoding, Language, OpenText, Reporter};
+use crate::document::{Document, KeptText, MAX_DOCUMENTS, document_of, document_with, position_of};
+use crate::language::{Encoding, Language, OpenText, Question, Reporter};
 use crate::message::{Message, message_of};
 use crate::method::{Notice, Topic, notice_of, topic_of};
 use crate::notices::{cleared, declined, published};
@@ -94,7 +95,7 @@ fn reporting<R: Reporter>(
     ensures report { IfOk result (λ a. spec.IsReported R.reports (commands.report_on id.now uri.now (Some document.now))
         (option_map (λ v. v.items) a.response)) }
 {
-    let report = reporter.report(alloc, uri, document.text.as_slice())?;
+    let report = reporter.report(alloc, uri, &document.text)?;
     resulting(alloc, id, report.as_slice())
 }
 
@@ -148,13 +149,21 @@ fn diagnosed<L: Language>(
 fn result_about<L: Language>(
     alloc: Global,
     language: &L,
-    open: OpenText<'_>,
-    topic: Topic,
-    params: &Value<'_>,
+    uri: &str,
+    encoding: Encoding,
+    text: &KeptText,
+    question: Question,
 ) -> Result<Vec<u8>, AllocError> {
-    match question_in(topic, params) {
-        Some(question) => language.result(alloc, open, question),
-        None => Vec::from_slice(alloc, b"null"),
+    match text {
+        KeptText::Whole(bytes) => {
+            let open = OpenText {
+                uri,
+                text: bytes.as_slice(),
+                encoding,
+            };
+            language.result(alloc, open, question)
+        }
+        KeptText::TooLong(_) => language.result_of_too_long(alloc, question),
     }
 }
 
@@ -183,6 +192,7 @@ impl Session {
     }
 
     /// Adds a document that isn't open.
+    #[tactic(auto, using(crate::proofs::Keeping::one_more))]
     fn add<L: Language>(
         &mut self,
         alloc: Global,
@@ -193,15 +203,17 @@ impl Session {
     ) -> Result<MessageAnswer, AllocError>
         ensures answers { IfOk result (spec.Answers no_response None) }
         ensures phase { self.new.phase ≡ self.old.phase }
+        ensures documents { AreKept L.most self.old.documents → AreKept L.most self.new.documents }
         ensures kept { OnErr result (self.new ≡ self.old) }
     {
         let answer = diagnosed(alloc, language, self.text_of(uri, text), version)?;
-        let document = document_with(alloc, uri, text)?;
+        let document = document_with(alloc, language, uri, text)?;
         self.documents.push(document)?;
         Ok(answer)
     }
 
     /// Changes the document of a number.
+    #[tactic(auto, using(crate::proofs::Keeping::another))]
     fn change<L: Language>(
         &mut self,
         alloc: Global,
@@ -214,10 +226,11 @@ impl Session {
         requires within { at < length self.old.documents }
         ensures answers { IfOk result (spec.Answers no_response None) }
         ensures phase { self.new.phase ≡ self.old.phase }
+        ensures documents { AreKept L.most self.old.documents → AreKept L.most self.new.documents }
         ensures kept { OnErr result (self.new ≡ self.old) }
     {
         let answer = diagnosed(alloc, language, self.text_of(uri, text), version)?;
-        let document = document_with(alloc, uri, text)?;
+        let document = document_with(alloc, language, uri, text)?;
         self.documents.set(at, document);
         Ok(answer)
     }
@@ -233,6 +246,7 @@ impl Session {
     ) -> Result<MessageAnswer, AllocError>
         ensures answers { IfOk result (spec.Answers no_response None) }
         ensures phase { self.new.phase ≡ self.old.phase }
+        ensures documents { AreKept L.most self.old.documents → AreKept L.most self.new.documents }
         ensures kept { OnErr result (self.new ≡ self.old) }
     {
         if self.documents.len() < MAX_DOCUMENTS {
@@ -253,6 +267,7 @@ impl Session {
     ) -> Result<MessageAnswer, AllocError>
         ensures answers { IfOk result (spec.Answers no_response None) }
         ensures phase { self.new.phase ≡ self.old.phase }
+        ensures documents { AreKept L.most self.old.documents → AreKept L.most self.new.documents }
         ensures kept { OnErr result (self.new ≡ self.old) }
     {
         match position_of(self.documents.as_slice(), uri) {
@@ -272,6 +287,7 @@ impl Session {
     ) -> Result<MessageAnswer, AllocError>
         ensures answers { IfOk result (spec.Answers no_response None) }
         ensures phase { self.new.phase ≡ self.old.phase }
+        ensures documents { AreKept L.most self.old.documents → AreKept L.most self.new.documents }
         ensures kept { OnErr result (self.new ≡ self.old) }
     {
         match position_of(self.documents.as_slice(), uri) {
@@ -280,8 +296,10 @@ impl Session {
         }
     }
 
+    #[tactic(auto, using(crate::proofs::Keeping::one_less))]
     fn forget(&mut self, uri: &str)
         ensures phase { self.new.phase ≡ self.old.phase }
+        ensures documents { (most : List ℕ → ℕ) → AreKept most self.old.documents → AreKept most self.new.documents }
     {
         if let Some(at) = position_of(self.documents.as_slice(), uri) {
             self.documents.remove(at);
@@ -292,6 +310,7 @@ impl Session {
     fn close(&mut self, alloc: Global, uri: &str) -> Result<MessageAnswer, AllocError>
         ensures answers { IfOk result (spec.Answers no_response None) }
         ensures phase { self.new.phase ≡ self.old.phase }
+        ensures documents { (most : List ℕ → ℕ) → AreKept most self.old.documents → AreKept most self.new.documents }
         ensures kept { OnErr result (self.new ≡ self.old) }
     {
         let notice = cleared(alloc, uri)?;
@@ -310,6 +329,7 @@ impl Session {
     ) -> Result<MessageAnswer, AllocError>
         ensures answers { IfOk result (spec.Answers no_response None) }
         ensures phase { self.new.phase ≡ self.old.phase }
+        ensures documents { AreKept L.most self.old.documents → AreKept L.most self.new.documents }
         ensures kept { OnErr result (self.new ≡ self.old) }
     {
         match (uri_in(params), opened_text(params)) {
@@ -326,6 +346,7 @@ impl Session {
     ) -> Result<MessageAnswer, AllocError>
         ensures answers { IfOk result (spec.Answers no_response None) }
         ensures phase { self.new.phase ≡ self.old.phase }
+        ensures documents { AreKept L.most self.old.documents → AreKept L.most self.new.documents }
         ensures kept { OnErr result (self.new ≡ self.old) }
     {
         match (uri_in(params), changed_text(params)) {
@@ -339,6 +360,7 @@ impl Session {
     fn closed(&mut self, alloc: Global, params: &Value<'_>) -> Result<MessageAnswer, AllocError>
         ensures answers { IfOk result (spec.Answers no_response None) }
         ensures phase { self.new.phase ≡ self.old.phase }
+        ensures documents { (most : List ℕ → ℕ) → AreKept most self.old.documents → AreKept most self.new.documents }
         ensures kept { OnErr result (self.new ≡ self.old) }
     {
         match uri_in(params) {
@@ -356,6 +378,7 @@ impl Session {
     ) -> Result<MessageAnswer, AllocError>
         ensures answers { IfOk result (spec.Answers no_response None) }
         ensures phase { self.new.phase ≡ self.old.phase }
+        ensures documents { AreKept L.most self.old.documents → AreKept L.most self.new.documents }
         ensures kept { OnErr result (self.new ≡ self.old) }
     {
         match notice {
@@ -375,6 +398,7 @@ impl Session {
     ) -> Result<MessageAnswer, AllocError>
         ensures answers { IfOk result (spec.Answers no_response None) }
         ensures phase { self.new.phase ≡ self.old.phase }
+        ensures documents { AreKept L.most self.old.documents → AreKept L.most self.new.documents }
         ensures kept { OnErr result (self.new ≡ self.old) }
     {
         match (notice_of(method), params) {
@@ -392,6 +416,7 @@ impl Session {
     ) -> Result<MessageAnswer, AllocError>
         ensures answers { IfOk result (spec.Answers no_response (spec.end_of_notification self.old.phase method.now)) }
         ensures phase { self.new.phase ≡ self.old.phase }
+        ensures documents { AreKept L.most self.old.documents → AreKept L.most self.new.documents }
         ensures kept { OnErr result (self.new ≡ self.old) }
     {
         if method == "exit" {
@@ -413,6 +438,7 @@ impl Session {
     ) -> Result<MessageAnswer, AllocError>
         ensures answers { IfOk result (spec.Answers (a_result id.now) None) }
         ensures phase { OnOk result (self.new.phase ≡ Ready) }
+        ensures documents { (most : List ℕ → ℕ) → AreKept most self.old.documents → AreKept most self.new.documents }
         ensures kept { OnErr result (self.new ≡ self.old) }
     {
         let encoding = encoding_for(params);
@@ -425,6 +451,7 @@ impl Session {
     fn shut_down(&mut self, alloc: Global, id: &[u8]) -> Result<MessageAnswer, AllocError>
         ensures answers { IfOk result (spec.Answers (a_result id.now) None) }
         ensures phase { OnOk result (self.new.phase ≡ Stopped) }
+        ensures documents { (most : List ℕ → ℕ) → AreKept most self.old.documents → AreKept most self.new.documents }
         ensures kept { OnErr result (self.new ≡ self.old) }
     {
         let answer = resulting(alloc, id, b"null")?;
@@ -443,17 +470,19 @@ impl Session {
         let Some(uri) = uri_in(params) else {
             return Vec::from_slice(alloc, b"null");
         };
-        match document_of(self.documents.as_slice(), uri) {
-            Some(found) => {
-                result_about(
-                    alloc,
-                    language,
-                    found.open(uri, self.encoding),
-                    topic,
-                    params,
-                )
-            }
-            None => Vec::from_slice(alloc, b"null"),
+        match (
+            document_of(self.documents.as_slice(), uri),
+            question_in(topic, params),
+        ) {
+            (Some(found), Some(question)) => result_about(
+                alloc,
+                language,
+                uri,
+                self.encoding,
+                &found.text,
+                question,
+            ),
+            _ => Vec::from_slice(alloc, b"null"),
         }
     }
 
@@ -522,6 +551,7 @@ impl Session {
         requires fresh { self.old.phase ≡ Fresh }
         ensures answers { IfOk result (spec.Answers (spec.of_first id.now method.now) None) }
         ensures phase { OnOk result (self.new.phase ≡ spec.after_request Fresh method.now) }
+        ensures documents { (most : List ℕ → ℕ) → AreKept most self.old.documents → AreKept most self.new.documents }
         ensures kept { OnErr result (self.new ≡ self.old) }
     {
         if method == "initialize" {
@@ -547,6 +577,7 @@ impl Session {
         ensures report { IfOk result (λ a. spec.IsReported R.reports (spec.report_of_request Ready self.old.documents id.now method.now
             (option_map (λ v. value_view v.now) params.entry)) (option_map (λ v. v.items) a.response)) }
         ensures phase { OnOk result (self.new.phase ≡ spec.after_request Ready method.now) }
+        ensures documents { AreKept L.most self.old.documents → AreKept L.most self.new.documents }
         ensures kept { OnErr result (self.new ≡ self.old) }
     {
         if method == "initialize" {
@@ -576,6 +607,7 @@ impl Session {
             (λ a. spec.IsReported R.reports (spec.report_of_request self.old.phase self.old.documents id.now method.now
             (option_map (λ v. value_view v.now) params.entry)) (option_map (λ v. v.items) a.response)) }
         ensures phase { OnOk result (self.new.phase ≡ spec.after_request self.old.phase method.now) }
+        ensures documents { AreKept L.most self.old.documents → AreKept L.most self.new.documents }
         ensures kept { OnErr result (self.new ≡ self.old) }
     {
         match self.phase {
@@ -604,6 +636,7 @@ impl Session {
             (spec.report_of_request self.old.phase self.old.documents (spec.id_text (value_view id.now)) method.now
             (option_map (λ v. value_view v.now) params.entry)) (option_map (λ v. v.items) a.response)) }
         ensures phase { OnOk result (self.new.phase ≡ spec.after_request self.old.phase method.now) }
+        ensures documents { AreKept L.most self.old.documents → AreKept L.most self.new.documents }
         ensures kept { OnErr result (self.new ≡ self.old) }
     {
         let id = to_vec(alloc, id)?;
@@ -627,6 +660,7 @@ impl Session {
         ensures report { IfOk result (λ a. spec.IsReported R.reports (spec.report_of_message self.old (messages.view_of message.entry)
             (option_map (λ v. value_view v.now) params.entry)) (option_map (λ v. v.items) a.response)) }
         ensures phase { OnOk result (self.new.phase ≡ spec.after_message self.old.phase (messages.view_of message.entry)) }
+        ensures documents { AreKept L.most self.old.documents → AreKept L.most self.new.documents }
         ensures kept { OnErr result (self.new ≡ self.old) }
     {
         match message {
@@ -652,6 +686,7 @@ impl Session {
         ensures report { IfOk result (λ a. spec.IsReported R.reports (spec.report_of_body self.old (Some (value_view value.now)))
             (option_map (λ v. v.items) a.response)) }
         ensures phase { OnOk result (self.new.phase ≡ spec.after_body self.old.phase (Some (value_view value.now))) }
+        ensures documents { AreKept L.most self.old.documents → AreKept L.most self.new.documents }
         ensures kept { OnErr result (self.new ≡ self.old) }
     {
         let message = message_of(value);
@@ -670,7 +705,7 @@ impl Session {
         reporter: &R,
         body: &[u8],
     ) -> Result<MessageAnswer, AllocError>
-        ensures answered { IfOk result (λ a. spec.IsAnswered R.reports self.old body.now (reply_of a) self.new) }
+        ensures answered { IfOk result (λ a. spec.IsAnswered L.most R.reports self.old body.now (reply_of a) self.new) }
         ensures kept { OnErr result (self.new ≡ self.old) }
     {
         let mut scratch = Scratch::new(alloc);
