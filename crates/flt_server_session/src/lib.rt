@@ -4,8 +4,8 @@
 //!
 //! `specs/Answers.antt` has the properties that are proved of an answer: whether there is a response, to which request, and which error it
 //! is; whether the server ends; and the state of the session afterwards. `specs/Kept.antt` says what a session keeps of a document: its
-//! bytes, or nothing but their number where they are more than the language says. No contract here is about the results that a language writes. The
-//! report that a client asks for by a command is one that the reporter may write.
+//! bytes, or nothing but their number where they are more than the language says. No contract here is about the results that a language
+//! writes. The report that a client asks for by a command is one that the reporter may write.
 #![tactic(auto)]
 
 mod capabilities;
