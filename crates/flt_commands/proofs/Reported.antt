@@ -1,27 +1,28 @@
 -- The report on what is asked for, from what is said of it and how that is printed.
 use Rattle.std.proofs.Common.{◌≡◌, ◌≢◌, ◌∙◌, ℕ, List, [], ◌∷◌, ◌++◌, flat_map, refl, Option, Some, None, Result}
-use Rattle.std.proofs.Common.{Ok, Err, IfErr, IfOk, OnOk, Bool, Bor, option_map, Vec, Global, map, ap, sym, arith}
+use Rattle.std.proofs.Common.{Ok, Err, IfErr, IfOk, OnOk, Bool, option_map, Vec, Global, map, ap, sym, arith}
 use Rattle.std.proofs.Math.Path.{subst}
 use Rattle.flt_syntax.specs.TextFails.{SpelledFailsNowhere}
 use Rattle.flt_commands.proofs.Covered.{Law, LawOfRuns, clean_of}
-use Rattle.flt_commands.specs.Commands.{Answers, AnswersFor, AnswersSomehow, AreThose, HasCodes, HoldsBack, IsAnswered}
+use Rattle.flt_commands.specs.Commands.{Answers, AnswersFor, AreThose, HasCodes, HoldsBack, IsAnswered}
 use Rattle.flt_commands.specs.Commands.{IsBefore, IsCutShort, IsKept, IsRemarked, NamesNoJournal, IsRemarkedAfter}
 use Rattle.flt_commands.specs.Commands.{IsReported, IsSaid, codes_of, giving_for, texts_in}
-use Rattle.flt_files.specs.Attempts.{Attempt}
+use Rattle.flt_files.specs.Attempts.{Attempt, AreDeedsOf, Does, Failed, IsUndone, Wrote, none as no_deeds}
+use Rattle.flt_files.specs.Deeds.{Deed}
 use Rattle.flt_commands_runs.specs.Drawn.{IsDrawnFor}
 use Rattle.flt_commands_runs.specs.Replay.{IsKeptAs}
 use Rattle.flt_commands_texts.specs.EmitInto.{ArePut}
-use Rattle.flt_commands_explain.specs.Explain.{ArePaged, IsSpelledAs, IsWritten}
-use Rattle.flt_commands_texts.specs.Format.{AreChanged}
+use Rattle.flt_commands_explain.specs.Explain.{ArePaged, IsSpelledAs, IsWrittenFor}
+use Rattle.flt_commands_texts.specs.Format.{AreChanged, attempts_in}
 use Rattle.flt_explain_outcomes.specs.Noted.{first_journal}
-use Rattle.std.specs.Prelude.{⊤}
+use Rattle.std.specs.Prelude.{drop}
 use Rattle.flt_files.specs.Inputs.{Giving, Says, Text, given}
 use Rattle.flt_commands_explain.specs.Remarks.{IsFound, unread_in, unread_lines}
 use Rattle.flt_commands.specs.Answer.{of_explain, of_run}
 use Rattle.flt_commands_explain.specs.Answer.{status_of as explain_status}
 use Rattle.flt_files.specs.Unread.{status_beside}
 use Rattle.flt_files.specs.declared.unread.UnreadFile.{UnreadFile}
-use Rattle.flt_model.specs.JournalText.{Entries}
+use Rattle.flt_model.specs.JournalText.{Entries, spelling}
 use Rattle.flt_words.specs.Request.{Asked, Choice, EmitInto, Explain, Format, Show}
 use Rattle.flt_words.specs.Words.{asked}
 use Rattle.flt_words.specs.declared.request.Colour.{Colour}
@@ -32,9 +33,11 @@ use Rattle.flt_commands.specs.declared.answer.Answer.{Answer}
 use Rattle.flt_commands_explain.specs.declared.answer.ExplainAnswer.{ExplainAnswer}
 use Rattle.flt_commands_explain.specs.declared.answer.ExplainAnswer.TheVariants.{Explained, Pages}
 use Rattle.flt_commands_runs.specs.declared.answer.RunAnswer.{RunAnswer}
+use Rattle.flt_commands_runs.specs.declared.answer.RunAnswer.TheVariants.{Shown}
 use Rattle.flt_commands_texts.specs.declared.answer.TextAnswer.{TextAnswer}
 use Rattle.flt_commands_texts.specs.declared.answer.TextAnswer.TheVariants.{EmittedInto, Formatted}
 use Rattle.flt_files.specs.declared.failure.Failure.{Failure}
+use Rattle.flt_files.specs.declared.failure.Failure.TheVariants.{CannotWrite, OutOfMemory as RanOut}
 use Rattle.flt_commands_explain.specs.declared.fault.CommandFault.{CommandFault}
 use Rattle.flt_commands_explain.specs.declared.fault.CommandFault.TheVariants.{OutOfMemory}
 use Rattle.flt_commands.specs.declared.report.Report.{Report}
@@ -100,14 +103,12 @@ pub remarked_after : (request : Asked) (before : List ℕ) (said : Result Answer
 remarked_after request before said (Ok report) first is = (before, first, is)
 remarked_after request before said (Err f) first is = tt
 
--- where a picture is named, it is written, and where none is, all that is written stays as it was
-pub kept_shown : (written : Text → Text → Type 0) (does : List Attempt → Type 0) (timeline : Bool) (picture : Option (Bor Text))
+-- what is done for a journal that is shown is what the request has
+pub kept_shown : (written : Text → Text → Type 0) (does : List Attempt → Type 0) (timeline : Bool) (picture : Option Text)
     (journal : Text) (files : List Text) (bytes : Text) (texts : List Text) (own : Result RunAnswer Failure)
-    (said : Result Answer Failure) → said ≡ of_run own → IsDrawnFor written (option_map (λ name. name.now) picture) texts own →
-    (picture ≡ None → does []) →
-    IsKept written does (Show timeline (option_map (λ name. name.now) picture) journal files) (bytes ∷ texts) said
-kept_shown written does timeline (Some name) journal files bytes texts own said is drawn none = (own, is, drawn)
-kept_shown written does timeline None journal files bytes texts own said is drawn none = none refl
+    (said : Result Answer Failure) → said ≡ of_run own → IsDrawnFor written does picture texts own →
+    IsKept written does (Show timeline picture journal files) (bytes ∷ texts) said
+kept_shown written does timeline picture journal files bytes texts own said is drawn = (own, is, drawn)
 
 -- beside a journal that is shown nothing is said
 own_before : (P : Type 0) (own : Result RunAnswer Failure) → OnOk own P → OnOk (of_run own) P
@@ -187,79 +188,91 @@ pub never_quiet : (words : List (List ℕ)) (folder : Text) (is_forced : Bool) (
 never_quiet words folder is_forced file cert asks (Ok report) = rw (← asks) (λ good none. absurd none)
 never_quiet words folder is_forced file cert asks (Err e) = tt
 
--- ---- where it isn't known what else was done to files
+-- ---- what is done to files, in other words
 
-abbrev any : List Attempt → Type 0
-any attempts = ⊤
+module _ (written : Text → Text → Type 0) (does did : List Attempt → Type 0)
+    (said_so : (attempts : List Attempt) → does attempts → did attempts) where
+  undone_as : (name : Text) (f : Failure) → IsUndone does name f → IsUndone did name f
+  undone_as name (CannotWrite other why) is = said_so (Failed name ∷ []) is
+  undone_as name RanOut is = tt
+  undone_as name _ is = said_so [] is
 
-spelled_anyway : (written : Text → Text → Type 0) (untouched : Type 0) (name : Text) (journal : Option Entries) →
-    IsSpelledAs written untouched name journal → IsSpelledAs written ⊤ name journal
-spelled_anyway written untouched name (Some entries) is = is
-spelled_anyway written untouched name None is = tt
+  spelled_as : (name : Text) (journal : Option Entries) → IsSpelledAs written does name journal → IsSpelledAs written did name journal
+  spelled_as name (Some entries) is = (is.0, said_so (Wrote name (spelling entries) ∷ []) is.1)
+  spelled_as name None is = said_so [] is
 
-written_anyway : (written : Text → Text → Type 0) (untouched : Type 0) (journal : Option Text) (own : Result ExplainAnswer Failure) →
-    IfOk own (IsWritten written untouched journal) → IfOk own (IsWritten written ⊤ journal)
-written_anyway written untouched None (Ok answer) is = tt
-written_anyway written untouched (Some name) (Ok (Explained e unread)) is =
-    spelled_anyway written untouched name (first_journal e.noted) is
-written_anyway written untouched (Some name) (Ok (Pages pages)) is = tt
-written_anyway written untouched journal (Err f) is = tt
+  written_as : (journal : Option Text) (own : Result ExplainAnswer Failure) → IsWrittenFor written does journal own →
+      IsWrittenFor written did journal own
+  written_as None (Ok answer) is = said_so [] is
+  written_as (Some name) (Ok (Explained e unread)) is = spelled_as name (first_journal e.noted) is
+  written_as (Some name) (Ok (Pages pages)) is = said_so [] is
+  written_as None (Err f) is = said_so [] is
+  written_as (Some name) (Err f) is = undone_as name f is
 
-changed_anyway : (written : Text → Text → Type 0) (untouched : Type 0) (answer : TextAnswer) → AreChanged written untouched answer →
-    AreChanged written ⊤ answer
-changed_anyway written untouched (Formatted mode found) is = (is.0, λ none. tt)
-changed_anyway written untouched _ is = tt
+  drawn_as : (picture : Option Text) (texts : List Text) (own : Result RunAnswer Failure) → IsDrawnFor written does picture texts own →
+      IsDrawnFor written did picture texts own
+  drawn_as None texts own is = said_so [] is
+  drawn_as (Some name) texts (Ok (Shown rows v)) is =
+      (is.0, is.1, (is.2.0, is.2.1, is.2.2, said_so (Wrote name is.2.0 ∷ []) is.2.3))
+  drawn_as (Some name) texts (Ok _) is = absurd is
+  drawn_as (Some name) texts (Err f) is = undone_as name f is
 
-all_changed_anyway : (written : Text → Text → Type 0) (untouched : Type 0) (own : Result TextAnswer Failure) →
-    IfOk own (AreChanged written untouched) → IfOk own (AreChanged written ⊤)
-all_changed_anyway written untouched (Ok answer) is = changed_anyway written untouched answer is
-all_changed_anyway written untouched (Err f) is = tt
+  changed_as : (answer : TextAnswer) → AreChanged written does answer → AreChanged written did answer
+  changed_as (Formatted mode found) is = (is.0, said_so (attempts_in mode found.files.items) is.1)
+  changed_as _ is = said_so [] is
 
-put_anyway : (written : Text → Text → Type 0) (does : List Attempt → Type 0) (folder : Text) (texts : List Text)
-    (own : Result TextAnswer Failure) → ArePut written does folder texts own → ArePut written any folder texts own
-put_anyway written does folder (text ∷ texts) (Ok (EmittedInto driver)) is = record {
-  graph = is.graph;
-  points = is.points;
-  listed = is.listed;
-  kinds = is.kinds;
-  put = record { read = is.put.read; named = is.put.named; done = is.put.done; only = tt };
-}
-put_anyway written does folder [] (Ok (EmittedInto driver)) is = is
-put_anyway written does folder texts (Ok _) is = tt
-put_anyway written does folder texts (Err f) is = λ other. tt
+  all_changed_as : (own : Result TextAnswer Failure) → IfOk own (AreChanged written does) → IfOk own (AreChanged written did)
+  all_changed_as (Ok answer) is = changed_as answer is
+  all_changed_as (Err f) is = tt
 
-kept_anyway : (written : Text → Text → Type 0) (does : List Attempt → Type 0) (request : Asked) (texts : List Text)
-    (said : Result Answer Failure) → IsKept written does request texts said → IsKept written any request texts said
-kept_anyway written does (Explain form colour search journal warnings is_c files) texts said (own, same, is) =
-    (own, same, written_anyway written (does []) journal own is)
-kept_anyway written does (Show timeline (Some picture) journal files) texts said is = is
-kept_anyway written does (Format Write files) texts said (own, same, is) = (own, same, all_changed_anyway written (does []) own is)
-kept_anyway written does (EmitInto folder is_forced file cert) texts said (own, same, is) =
-    (own, same, put_anyway written does folder texts own is)
-kept_anyway written does _ texts said is = tt
+  put_as : (folder : Text) (texts : List Text) (own : Result TextAnswer Failure) → ArePut written does folder texts own →
+      ArePut written did folder texts own
+  put_as folder (text ∷ texts) (Ok (EmittedInto driver)) is = record {
+    graph = is.graph;
+    points = is.points;
+    listed = is.listed;
+    kinds = is.kinds;
+    put = record { read = is.put.read; named = is.put.named; done = is.put.done; only = said_so _ is.put.only };
+  }
+  put_as folder [] (Ok (EmittedInto driver)) is = is
+  put_as folder texts (Ok _) is = said_so [] is
+  put_as folder texts (Err f) is = λ other. said_so [] (is other)
 
-answered_anyway : (shown : Bool) (gives : Giving) (written : Text → Text → Type 0) (does : List Attempt → Type 0) (request : Option Asked)
-    (report : Report) → AnswersFor shown gives written does request report → AnswersFor shown gives written any request report
-answered_anyway shown gives written does None report is = (is.0, tt)
-answered_anyway shown gives written does (Some request) report is = record {
-  said = is.said;
-  texts = is.texts;
-  those = is.those;
-  coded = is.coded;
-  is = is.is;
-  reported = is.reported;
-  remarked = is.remarked;
-  clean = is.clean;
-  kept = kept_anyway written does request is.texts is.said is.kept;
-}
+  kept_as_done : (request : Asked) (texts : List Text) (said : Result Answer Failure) → IsKept written does request texts said →
+      IsKept written did request texts said
+  kept_as_done (Explain form colour search journal warnings is_c files) texts said (own, same, is) = (own, same, written_as journal own is)
+  kept_as_done (Show timeline picture journal files) texts said (own, same, is) = (own, same, drawn_as picture (drop 1 texts) own is)
+  kept_as_done (Format Write files) texts said (own, same, is) = (own, same, all_changed_as own is)
+  kept_as_done (EmitInto folder is_forced file cert) texts said (own, same, is) = (own, same, put_as folder texts own is)
+  kept_as_done _ texts said is = said_so [] is
 
--- what answers words answers them whether or not a terminal shows colours
-pub answers_anyway : (shown : Bool) (gives : Giving) (written : Text → Text → Type 0) (does : List Attempt → Type 0) (words : List (List ℕ))
-    (result : Result Report CommandFault) → IfOk result (Answers shown gives written does words) →
-    IfOk result (AnswersSomehow gives written words)
-answers_anyway shown gives written does words (Ok report) is =
-    (shown, answered_anyway shown gives written does (asked words) report is)
-answers_anyway shown gives written does words (Err e) is = tt
+  answered_as : (shown : Bool) (gives : Giving) (request : Option Asked) (report : Report) →
+      AnswersFor shown gives written does request report → AnswersFor shown gives written did request report
+  answered_as shown gives None report is = (is.0, said_so [] is.1)
+  answered_as shown gives (Some request) report is = record {
+    said = is.said;
+    texts = is.texts;
+    those = is.those;
+    coded = is.coded;
+    is = is.is;
+    reported = is.reported;
+    remarked = is.remarked;
+    clean = is.clean;
+    kept = kept_as_done request is.texts is.said is.kept;
+  }
+
+  -- what answers words answers them in other words of what is done
+  pub answers_as : (shown : Bool) (gives : Giving) (words : List (List ℕ)) (result : Result Report CommandFault) →
+      IfOk result (Answers shown gives written does words) → IfOk result (Answers shown gives written did words)
+  answers_as shown gives words (Ok report) is = answered_as shown gives (asked words) report is
+  answers_as shown gives words (Err e) is = tt
+
+-- what was done since nothing was is all that was done
+pub all_done : (same : Type 0) (old new : List Deed) → old ≡ [] → (same → new ≡ old) → (attempts : List Attempt) →
+    Does same old new attempts → AreDeedsOf attempts new
+all_done same old new none unchanged [] is = rw (unchanged is ∙ none) no_deeds
+all_done same old new none unchanged (x ∷ xs) is =
+    subst (AreDeedsOf (x ∷ xs)) (sym (is.added ∙ ap (λ (l : List Deed). l ++ is.more) none)) is.are
 
 -- ---- all of it
 

@@ -2,19 +2,20 @@
 -- what it is worth and what is kept. This project's own program.
 use Rattle.std.specs.Io.KnownBytes.{Appends}
 use Rattle.std.specs.Prelude.{◌≡◌, ◌≢◌, ℕ, Bool, List, [], ◌∷◌, ◌++◌, Option, Some, None, Result}
-use Rattle.std.specs.Prelude.{Ok, Err, IfOk, OnOk, codes, drop, map, option_map, unwrap_or, ⊤}
+use Rattle.std.specs.Prelude.{Ok, Err, IfOk, OnOk, codes, drop, map, option_map, unwrap_or}
 use Rattle.flt_commands_explain.specs.Allowed.{options_of}
 use Rattle.flt_commands_texts.specs.Analyse.{IsAnalysed}
 use Rattle.flt_commands.specs.Answer.{IsOf, ending_of, output, remark, status_of}
-use Rattle.flt_files.specs.Attempts.{Attempt}
+use Rattle.flt_files.specs.Attempts.{Attempt, AreDeedsOf}
+use Rattle.flt_files.specs.Deeds.{Deed}
 use Rattle.flt_commands_texts.specs.Check.{IsChecked}
 use Rattle.flt_commands.specs.Clean.{IsClean}
 use Rattle.flt_commands_texts.specs.Compare.{IsCompared}
-use Rattle.flt_commands_runs.specs.Drawn.{IsDrawn}
+use Rattle.flt_commands_runs.specs.Drawn.{IsDrawnFor}
 use Rattle.flt_commands_texts.specs.Emit.{IsEmitted}
 use Rattle.flt_commands_texts.specs.EmitInto.{ArePut, IsEmittedInto, remark_in}
 use Rattle.flt_commands_explain.specs.Explain as explain
-use Rattle.flt_commands_explain.specs.Explain.{ArePaged, IsExplained, IsWritten, look_in, search_of}
+use Rattle.flt_commands_explain.specs.Explain.{ArePaged, IsExplained, IsWrittenFor, look_in, search_of}
 use Rattle.flt_commands_texts.specs.Extract.{IsExtracted}
 use Rattle.flt_commands.specs.FailureLine.{failure_line}
 use Rattle.flt_commands_texts.specs.LayoutRemarks.{remarks_in}
@@ -152,14 +153,12 @@ AreThose (Show timeline picture journal files) report texts said =
 AreThose request report texts said = texts ≡ texts_in report
 
 -- where a file is named for it, the journal of the first finding that has one, or the picture of the journal that is shown, is written
--- there; where layouts are written, each goes into its file; a driver's parts go into its folder; where no file is named for a picture or a
--- journal, and no layout and no driver is written, nothing is done, and all that is written stays as it was
+-- there; where layouts are written, each goes into its file; a driver's parts go into its folder; and nothing else is done to files: where
+-- no file is named for a picture or a journal, and no layout and no driver is written, nothing is
 abbrev pub IsKept : (Text → Text → Type 0) → (List Attempt → Type 0) → Asked → List Text → Result Answer Failure → Type 0
-IsKept written does (Explain form colour search journal warnings is_c files) texts said =
-    IsOf OfExplain (λ own. IfOk own (IsWritten written (does []) journal)) said
-IsKept written does (Show timeline (Some picture) journal files) texts said =
-    IsOf OfRun (λ own. IfOk own (IsDrawn written picture (drop 1 texts))) said
-IsKept written does (Format Write files) texts said = IsOf OfText (λ own. IfOk own (AreChanged written (does []))) said
+IsKept written does (Explain form colour search journal warnings is_c files) texts said = IsOf OfExplain (IsWrittenFor written does journal) said
+IsKept written does (Show timeline picture journal files) texts said = IsOf OfRun (IsDrawnFor written does picture (drop 1 texts)) said
+IsKept written does (Format Write files) texts said = IsOf OfText (λ own. IfOk own (AreChanged written does)) said
 IsKept written does (EmitInto folder is_forced file cert) texts said = IsOf OfText (ArePut written does folder texts) said
 IsKept written does request texts said = does []
 
@@ -187,6 +186,7 @@ AnswersFor shown gives written does (Some request) report = IsAnswered shown giv
 abbrev pub Answers : Bool → Giving → (Text → Text → Type 0) → (List Attempt → Type 0) → List (List ℕ) → Report → Type 0
 Answers shown gives written does words report = AnswersFor shown gives written does (asked words) report
 
--- the same, where nobody knows whether a terminal shows colours, nor what else was done to files
-abbrev pub AnswersSomehow : Giving → (Text → Text → Type 0) → List (List ℕ) → Report → Type 0
-AnswersSomehow gives written words report = (shown : Bool) × Answers shown gives written (λ attempts. ⊤) words report
+-- the same, where nobody knows whether a terminal shows colours; and all that was done to files is this
+abbrev pub AnswersSomehow : Giving → (Text → Text → Type 0) → List Deed → List (List ℕ) → Report → Type 0
+AnswersSomehow gives written done words report =
+    (shown : Bool) × Answers shown gives written (λ attempts. AreDeedsOf attempts done) words report

@@ -69,7 +69,7 @@ fn report_of<'a, R: Threads + Wait + Sync, I: Inputs, P: Pictures, O: Sink, W: W
     watch: &mut W,
 ) -> Result<Report, CommandFault>
     ensures answers { IfOk result (spec.Answers coloured (I.gives inputs.now) (P.written pictures.new)
-        (Does (pictures.new ≡ pictures.old) (P.tried pictures.old) (P.tried pictures.new)) (map string_bytes words.now)) }
+        (Does (pictures.new ≡ pictures.old) (P.done pictures.old) (P.done pictures.new)) (map string_bytes words.now)) }
     ensures quiet { IfOk result (λ report. report.status ≢ 2 → spec.NamesNoJournal (asked (map string_bytes words.now)) →
         report.remark.items ≡ []) }
     ensures sent { IfOk result (λ report. Appends (O.taken out.old) (O.taken out.new) (take report.sent report.output.items)) }
@@ -300,7 +300,7 @@ pub fn command<
     watch: &mut W,
 ) -> Result<Report, CommandFault>
     ensures answers { IfOk result (spec.Answers coloured (I.gives inputs.now) (P.written pictures.new)
-        (Does (pictures.new ≡ pictures.old) (P.tried pictures.old) (P.tried pictures.new)) (map string_bytes words.now)) }
+        (Does (pictures.new ≡ pictures.old) (P.done pictures.old) (P.done pictures.new)) (map string_bytes words.now)) }
     ensures prints { IfOk result (λ report. Appends (O.taken out.old) (O.taken out.new) report.output.items) }
     ensures remarks { IfOk result (λ report. Appends (E.taken err.old) (E.taken err.new) report.remark.items) }
     ensures write { IfErr result (λ e. e ≡ CommandFault.Write → (O.failures out.new ≢ O.failures out.old)

@@ -32,7 +32,7 @@ pub(crate) fn report_on_files<'a, I: Inputs, P: Pictures, O: Sink, W: SearchWatc
     ensures answered { (colour : Colour) → (shown : Bool) → (warnings : Choice) → asked.entry.coloured ≡ spec.is_coloured colour shown →
         asked.entry.options ≡ options_of warnings → map (λ name. name.now) asked.entry.allowed.now ≡ warnings.allowed →
         IfOk result (IsAnswered shown (I.gives inputs.now) (P.written pictures.new)
-        (Does (pictures.new ≡ pictures.old) (P.tried pictures.old) (P.tried pictures.new))
+        (Does (pictures.new ≡ pictures.old) (P.done pictures.old) (P.done pictures.new))
         (Explain asked.entry.form colour asked.entry.search (option_map (λ name. name.now) asked.entry.journal) warnings
         asked.entry.is_c (map (λ name. name.now) files.now))) }
     ensures quiet { (colour : Colour) → (warnings : Choice) → IfOk result (λ report. report.status ≢ 2 →

@@ -1,8 +1,9 @@
 //! The program on its system: its streams, and its own words.
 
-ghost use Rattle.std.specs.Prelude.{◌≡◌, IfNone, IfSome, map, string_bytes};
+ghost use Rattle.std.specs.Prelude.{◌≡◌, [], IfNone, IfSome, map, string_bytes};
 ghost use Rattle.flt_commands.specs.Commands.{AnswersSomehow};
 ghost use Rattle.flt_commands_explain.specs.Served.{ServesSomehow};
+ghost use Rattle.flt_files.specs.Deeds.{deeds_in};
 ghost use Rattle.flt_files.specs.System.{given_by_host, written_by_host};
 ghost use Rattle.flt_words.specs.Words.{AskToServe};
 
@@ -11,7 +12,7 @@ use crate::folders::{CommandLine, with_folders};
 use crate::report::Report;
 use crate::search::WatchSearch;
 use flt_commands_explain::{CommandFault, serve_client};
-use flt_files::{BarredFile, CountedReader, HostSystem, Reader, SystemFiles};
+use flt_files::{BarredFile, CountedReader, Deeds, HostSystem, Reader, SystemFiles, WrittenFiles};
 use flt_model::{ReadFault, Writing};
 use flt_server_frames::{Incoming, ServeFault};
 use flt_stack_crew::Watch;
@@ -163,6 +164,8 @@ pub struct Execution {
     pub report: Option<Report>,
     /// How a server ended; none where there was none, memory ran out, or a read or a write failed.
     pub served: Option<u8>,
+    /// The changes to files, one after the other.
+    pub deeds: Deeds,
 }
 
 impl Execution {
@@ -206,17 +209,19 @@ fn shows_colours(rt: &HostRuntime) -> Result<bool, AllocError> {
     Ok(!is_dumb(rt)?)
 }
 
-/// Runs the command of some words on the system, of which some files aren't opened, and returns the report on it. The standard error says if
-/// memory ran out, or why the answer isn't written.
+/// Runs the command of some words on the system, of which some files aren't opened, and returns the report on it, and the changes to
+/// files. The standard error says if memory ran out, or why the answer isn't written.
 fn execute<R: Threads + Wait + Sync>(
     rt: &HostRuntime,
     threads: &R,
     words: &[String],
     barred: &[BarredFile],
-) -> Option<Report>
-    ensures { IfSome result (AnswersSomehow given_by_host written_by_host (map string_bytes words.now)) }
+) -> (Option<Report>, Deeds)
+    ensures { IfSome result.0 (AnswersSomehow given_by_host written_by_host (deeds_in result.1) (map string_bytes words.now)) }
 {
+    let files = HostSystem::new(rt, barred);
     let host = HostSystem::new(rt, barred);
+    let mut written = WrittenFiles { system: host };
     let mut watch = Progress {
         rt,
         is_shown: rt.stderr().is_terminal(),
@@ -224,29 +229,30 @@ fn execute<R: Threads + Wait + Sync>(
     };
     let Ok(coloured) = shows_colours(rt) else {
         say_out_of_memory(rt);
-        return None;
+        return (None, written.system.into_deeds());
     };
     let mut out = Writing::new(CheckedWriter::new(rt.stdout()));
     let result = command(
         threads,
         rt.alloc(),
         words,
-        &SystemFiles::new(&host),
-        &mut SystemFiles::new(&host),
+        &SystemFiles::new(&files),
+        &mut written,
         coloured,
         &mut out,
         &mut Writing::new(rt.stderr()),
         &mut watch,
     );
+    let deeds = written.system.into_deeds();
     match result {
-        Ok(report) => Some(report),
+        Ok(report) => (Some(report), deeds),
         Err(CommandFault::OutOfMemory) => {
             say_out_of_memory(rt);
-            None
+            (None, deeds)
         }
         Err(CommandFault::Write) => {
             say_unwritten(rt, &out.into_inner());
-            None
+            (None, deeds)
         }
     }
 }
@@ -286,20 +292,23 @@ fn serve_streams(rt: &HostRuntime) -> Option<u8>
     }
 }
 
-/// Runs the command of the program's own words on the system, and returns the words with the report on them; or runs a server, if they ask
-/// for one, and returns the words with its exit status. `threads` is the same runtime once more: `main` alone can pass on that it starts
-/// threads.
+/// Runs the command of the program's own words on the system, and returns the words with the report on them and with the changes to files;
+/// or runs a server, if they ask for one, and returns the words with its exit status. `threads` is the same runtime once more: `main` alone
+/// can pass on that it starts threads.
 pub fn run<R: Threads + Wait + Sync>(rt: &HostRuntime, threads: &R) -> Execution
-    ensures answered { IfSome result.report (AnswersSomehow given_by_host written_by_host (map string_bytes result.words.items)) }
+    ensures answered { IfSome result.report (AnswersSomehow given_by_host written_by_host (deeds_in result.deeds)
+        (map string_bytes result.words.items)) }
     ensures served { IfSome result.served ServesSomehow }
     ensures apart { IfSome result.report (λ _. ¬ (AskToServe (map string_bytes result.words.items))) }
     ensures asked { IfSome result.served (λ _. AskToServe (map string_bytes result.words.items)) }
+    ensures untouched { IfSome result.served (λ _. deeds_in result.deeds ≡ []) }
 {
     let Some(line) = words_of(rt) else {
         return Execution {
             words: Vec::new(rt.alloc()),
             report: None,
             served: None,
+            deeds: Deeds::new(rt.alloc()),
         };
     };
     let CommandLine { words, barred } = line;
@@ -307,18 +316,24 @@ pub fn run<R: Threads + Wait + Sync>(rt: &HostRuntime, threads: &R) -> Execution
         Ok(true) => Execution {
             report: None,
             served: serve_streams(rt),
+            deeds: Deeds::new(rt.alloc()),
             words,
         },
-        Ok(false) => Execution {
-            report: execute(rt, threads, words.as_slice(), barred.as_slice()),
-            served: None,
-            words,
-        },
+        Ok(false) => {
+            let (report, deeds) = execute(rt, threads, words.as_slice(), barred.as_slice());
+            Execution {
+                report,
+                served: None,
+                deeds,
+                words,
+            }
+        }
         Err(_) => {
             say_out_of_memory(rt);
             Execution {
                 report: None,
                 served: None,
+                deeds: Deeds::new(rt.alloc()),
                 words,
             }
         }

@@ -24,7 +24,7 @@ pub(crate) fn report_on_layouts<I: Inputs, P: Pictures>(
     pictures: &mut P,
 ) -> Result<Report, CommandFault>
     ensures answered { (shown : Bool) → IfOk result (IsAnswered shown (I.gives inputs.now) (P.written pictures.new)
-        (Does (pictures.new ≡ pictures.old) (P.tried pictures.old) (P.tried pictures.new))
+        (Does (pictures.new ≡ pictures.old) (P.done pictures.old) (P.done pictures.new))
         (Format mode (map (λ name. name.now) files.now))) }
     ensures quiet { IfOk result (λ report. report.status ≢ 2 → report.remark.items ≡ []) }
     ensures sent { IfOk result (λ report. report.sent ≡ 0) }

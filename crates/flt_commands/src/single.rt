@@ -85,9 +85,9 @@ pub fn one_answer_at_most<I: Inputs, P: Pictures>()
     ensures one { (inputs : I) (before pictures past others : P) (shown showing : Bool) (words : List (List ℕ)) (a b : Report) →
         spec.AskForOne (asked words) →
         spec.GivesOne (I.gives inputs) → Answers shown (I.gives inputs) (P.written pictures)
-        (Does (pictures ≡ before) (P.tried before) (P.tried pictures)) words a →
+        (Does (pictures ≡ before) (P.done before) (P.done pictures)) words a →
         Answers showing (I.gives inputs) (P.written others)
-        (Does (others ≡ past) (P.tried past) (P.tried others)) words b → (a.output.items ≡ b.output.items) × (a.status ≡ b.status) }
+        (Does (others ≡ past) (P.done past) (P.done others)) words b → (a.output.items ≡ b.output.items) × (a.status ≡ b.status) }
     ensures said { (inputs : I) (shown showing : Bool) (request : Asked) (codes others : List (Option Text)) (texts more : List Text)
         (a b : Result Answer Failure) → spec.HasOneAnswer request → spec.GivesOne (I.gives inputs) →
         IsSaid shown (I.gives inputs) request codes texts a → IsSaid showing (I.gives inputs) request others more b → spec.AreSame a b }

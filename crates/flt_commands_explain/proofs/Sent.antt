@@ -10,7 +10,6 @@ use Rattle.flt_explain_forms.specs.declared.as_lines.Style.TheVariants.{Object, 
 use Rattle.flt_explain_texts.specs.declared.sources.Source.{Source}
 use Rattle.flt_explain_outcomes.specs.declared.schedules.RunSearch.{RunSearch}
 use Rattle.flt_explain_warning_details.specs.declared.options.WarningOptions.{WarningOptions}
-use Rattle.flt_words.specs.Request.{Explain}
 use Rattle.flt_words.specs.declared.request.Form.{Form}
 use Rattle.flt_words.specs.declared.request.Form.TheVariants.{Html, Human, Lines, LinesWithRuns, Sarif, SarifWithRuns, Short}
 

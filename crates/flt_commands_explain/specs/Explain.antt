@@ -38,6 +38,7 @@ use Rattle.flt_commands_explain.specs.Annotated.{AreFound}
 use Rattle.flt_commands_explain.specs.Drifts.{AreDrifted, drifts_told}
 use Rattle.flt_commands_explain.specs.FindingRuns.{AreRuns}
 use Rattle.flt_commands_explain.specs.InTurn.{AreFirstLines}
+use Rattle.flt_files.specs.Attempts.{Attempt, IsUndone, Wrote}
 use Rattle.flt_files.specs.Inputs.{Giving, Text, unread_names}
 use Rattle.flt_commands_explain.specs.Answer.{output, sent_of}
 use Rattle.flt_commands_explain.specs.Html.{IsPageOn, IsPaged}
@@ -210,15 +211,21 @@ IsToldOrUnwritten told unread journal (Unwritten name why) = journal ≡ Some na
 
 -- ---- the journal of the first finding that has one
 
--- a journal's spelling is written under a name; where there is none, all that is written stays as it was
-abbrev pub IsSpelledAs : (Text → Text → Type 0) → Type 0 → Text → Option Entries → Type 0
-IsSpelledAs written untouched name (Some entries) = written name (spelling entries)
-IsSpelledAs written untouched name None = untouched
+-- a journal's spelling is written under a name, and nothing else is done; where there is no journal, nothing is
+abbrev pub IsSpelledAs : (Text → Text → Type 0) → (List Attempt → Type 0) → Text → Option Entries → Type 0
+IsSpelledAs written does name (Some entries) = written name (spelling entries) × does (Wrote name (spelling entries) ∷ [])
+IsSpelledAs written does name None = does []
 
--- it is written where a file is named for it, and nothing else is
-abbrev pub IsWritten : (Text → Text → Type 0) → Type 0 → Option Text → ExplainAnswer → Type 0
-IsWritten written untouched (Some name) (Explained e unread) = IsSpelledAs written untouched name (first_journal e.noted)
-IsWritten written untouched _ answer = untouched
+-- it is written where a file is named for it, and nothing else is done
+abbrev pub IsWritten : (Text → Text → Type 0) → (List Attempt → Type 0) → Option Text → ExplainAnswer → Type 0
+IsWritten written does (Some name) (Explained e unread) = IsSpelledAs written does name (first_journal e.noted)
+IsWritten written does _ answer = does []
+
+-- the same where there is an answer; where there is none, the file couldn't be written, or nothing is done
+abbrev pub IsWrittenFor : (Text → Text → Type 0) → (List Attempt → Type 0) → Option Text → Result ExplainAnswer Failure → Type 0
+IsWrittenFor written does journal (Ok answer) = IsWritten written does journal answer
+IsWrittenFor written does (Some name) (Err f) = IsUndone does name f
+IsWrittenFor written does None (Err f) = does []
 
 -- ---- what goes out before the end
 

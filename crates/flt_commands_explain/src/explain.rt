@@ -1,7 +1,7 @@
 //! The answer of `explain` to the names that it is given: reports of files, or pages.
 
 ghost use Rattle.std.specs.Io.KnownBytes.{Appends};
-ghost use Rattle.std.specs.Prelude.{◌≡◌, ◌≢◌, [], None, IfErr, IfOk, OnErr, OnOk, length, map, option_map, string_bytes, take};
+ghost use Rattle.std.specs.Prelude.{◌≡◌, ◌≢◌, [], ◌∷◌, None, IfErr, IfOk, OnErr, OnOk, length, map, option_map, string_bytes, take};
 ghost use Rattle.flt_commands_explain.specs.Drifts.{drifts_told};
 ghost use Rattle.flt_commands_explain.specs.Explain as spec;
 ghost use Rattle.flt_commands_explain.specs.Html.{IsPageOn, IsPaged};
@@ -11,6 +11,7 @@ ghost use Rattle.flt_joined.specs.Texts.{givens};
 ghost use Rattle.flt_commands_explain.specs.Remarks.{unread_in};
 ghost use Rattle.flt_explain_outcomes.specs.Noted.{AreNotes, first_journal};
 ghost use Rattle.flt_explain_texts.specs.Reports.{texts_of};
+ghost use Rattle.flt_files.specs.Attempts.{Does, Failed, Grows};
 
 use crate::after::explain_after;
 use crate::annotated::{NamedFiles, find_each};
@@ -83,7 +84,7 @@ pub struct ExplainOptions<'a> {
     pub is_c: bool,
 }
 
-/// How runs are looked for, as it is asked for.
+/// How runs are looked for, by the words.
 fn search_of(choice: SearchChoice) -> RunSearch
     ensures { result ≡ spec.search_of choice }
 {
@@ -387,8 +388,9 @@ fn write_journal<P: Pictures>(
     noted: &[Note],
     pictures: &mut P,
 ) -> Result<Result<(), OutputFault>, AllocError>
-    ensures { IfOk result (λ done. OnOk done
-        (spec.IsSpelledAs (P.written pictures.new) (pictures.new ≡ pictures.old) name.now (first_journal noted.now))) }
+    ensures spelled { IfOk result (λ tried. OnOk tried (spec.IsSpelledAs (P.written pictures.new)
+        (Does (pictures.new ≡ pictures.old) (P.done pictures.old) (P.done pictures.new)) name.now (first_journal noted.now))) }
+    ensures failed { IfOk result (λ tried. OnErr tried (Grows (P.done pictures.old) (P.done pictures.new) (Failed name.now ∷ []))) }
 {
     match first_journal(noted) {
         Some(journal) => {
@@ -409,8 +411,9 @@ fn keep<'a, P: Pictures>(
     pictures: &mut P,
 ) -> Result<Explanation<'a>, AllocError>
     ensures said { IfOk result (spec.IsToldOrUnwritten told unread.items (option_map (λ name. name.now) journal.entry)) }
-    ensures written { IfOk result (λ said. IfOk (spec.said_of said) (spec.IsWritten (P.written pictures.new) (pictures.new ≡ pictures.old)
-        (option_map (λ name. name.now) journal.entry))) }
+    ensures written { IfOk result (λ said. spec.IsWrittenFor (P.written pictures.new)
+        (Does (pictures.new ≡ pictures.old) (P.done pictures.old) (P.done pictures.new))
+        (option_map (λ name. name.now) journal.entry) (spec.said_of said)) }
     ensures none { OnErr result (journal.entry ≢ None) }
 {
     let Some(name) = journal else {
@@ -444,8 +447,9 @@ pub fn explain_files<'a, I: Inputs, P: Pictures, O: Sink, W: SearchWatch>(
         (map (λ name. name.now) files.now) (map (option_map (λ code. code.items)) codes.new.items)
         (map (λ text. text.items) contents.new.texts.items) (spec.said_of said)) }
     ensures unread { IfOk result (λ said. IfOk (spec.said_of said) (λ answer. remark.new.items ≡ unread_in answer)) }
-    ensures written { IfOk result (λ said. IfOk (spec.said_of said) (spec.IsWritten (P.written pictures.new) (pictures.new ≡ pictures.old)
-        (option_map (λ name. name.now) asked.entry.journal))) }
+    ensures written { IfOk result (λ said. spec.IsWrittenFor (P.written pictures.new)
+        (Does (pictures.new ≡ pictures.old) (P.done pictures.old) (P.done pictures.new))
+        (option_map (λ name. name.now) asked.entry.journal) (spec.said_of said)) }
     ensures sent { IfOk result (λ said. spec.IsSent (O.taken out.old) (O.taken out.new) (spec.said_of said)) }
     ensures held { spec.HoldsBack asked.entry.form (option_map (λ name. name.now) asked.entry.journal) → out.new ≡ out.old }
     ensures fine { OnOk result (O.failures out.new ≡ O.failures out.old) }

@@ -1,13 +1,12 @@
 //! The answer of `replay` to the names that it is given, if the journal is shown.
 
-ghost use Rattle.std.specs.Prelude.{◌≡◌, [], ◌∷◌, ℕ, List, None, false, IfOk, OnOk, map, option_map};
+ghost use Rattle.std.specs.Prelude.{◌≡◌, [], ◌∷◌, ℕ, List, None, false, IfOk, OnErr, OnOk, map, option_map};
 ghost use Rattle.flt_commands_runs.specs.Replay.{IsKeptAs};
-ghost use Rattle.flt_commands_runs.specs.Drawn.{IsDrawnFor, IsDrawnIn};
+ghost use Rattle.flt_commands_runs.specs.Drawn.{IsDrawnFor, IsDrawnIn, IsDrawnOf};
+ghost use Rattle.flt_files.specs.Attempts.{Does, Failed, Grows};
 ghost use Rattle.flt_files.specs.Inputs.{Says};
 ghost use Rattle.flt_commands_runs.specs.Replay as spec;
 ghost use Rattle.flt_model.specs.Program.{filters_of};
-ghost use Rattle.flt_explain_picture.specs.Pictures.{IsPicture};
-ghost use Rattle.flt_explain_picture.specs.Titles.{title_of};
 
 use crate::answer::RunAnswer;
 use crate::replay::{JudgedJournal, replay_all};
@@ -39,8 +38,9 @@ fn draw<P: Pictures>(
     timeline: &Timeline<'_>,
     pictures: &mut P,
 ) -> Result<Result<(), OutputFault>, AllocError>
-    ensures { IfOk result (λ done. OnOk done ((drawn : List ℕ)
-        × IsPicture (title_of (filters_of replayed.now.trees.items) replayed.now.verdict) drawn × P.written pictures.new name.now drawn)) }
+    ensures drawn { IfOk result (λ tried. OnOk tried (IsDrawnOf (P.written pictures.new) (Grows (P.done pictures.old) (P.done pictures.new))
+        name.now (filters_of replayed.now.trees.items) replayed.now.verdict)) }
+    ensures failed { IfOk result (λ tried. OnErr tried (Grows (P.done pictures.old) (P.done pictures.new) (Failed name.now ∷ []))) }
 {
     let trees = replayed.trees.as_slice();
     let (journal, verdict) = (&replayed.journal, replayed.verdict);
@@ -59,9 +59,9 @@ fn show<'a, P: Pictures>(
     pictures: &mut P,
 ) -> Result<RunAnswer, Failure<'a>>
     ensures shown { spec.IsShownOf is_asked (option_map (λ name. name.now) name.entry) replayed.now.verdict result }
-    ensures drawn { IsDrawnIn (P.written pictures.new) (option_map (λ name. name.now) name.entry)
-        (filters_of replayed.now.trees.items) replayed.now.verdict result }
-    ensures untouched { name.entry ≡ None → pictures.new ≡ pictures.old }
+    ensures drawn { IsDrawnIn (P.written pictures.new)
+        (Does (pictures.new ≡ pictures.old) (P.done pictures.old) (P.done pictures.new))
+        (option_map (λ name. name.now) name.entry) (filters_of replayed.now.trees.items) replayed.now.verdict result }
 {
     let trees = replayed.trees.as_slice();
     let timeline = Timeline::of(alloc, trees, &[], &replayed.journal, replayed.verdict)?;
@@ -87,10 +87,10 @@ fn show_texts<'a, P: Pictures>(
 ) -> Result<RunAnswer, Failure<'a>>
     ensures said { spec.ShownJudges is_asked (option_map (λ name. name.now) name.entry) written
         (map (λ text. text.items) texts.now) result }
-    ensures drawn { IsDrawnFor (P.written pictures.new) (option_map (λ name. name.now) name.entry)
-        (map (λ text. text.items) texts.now) result }
+    ensures drawn { IsDrawnFor (P.written pictures.new)
+        (Does (pictures.new ≡ pictures.old) (P.done pictures.old) (P.done pictures.new))
+        (option_map (λ name. name.now) name.entry) (map (λ text. text.items) texts.now) result }
     ensures kept { journal.old ≡ None → IsKeptAs journal.new written result }
-    ensures untouched { name.entry ≡ None → pictures.new ≡ pictures.old }
 {
     let replayed = replay_all(alloc, written, texts)?;
     let answer = show(alloc, is_asked, inputs, name, &replayed, texts, pictures)?;
@@ -114,9 +114,9 @@ pub fn show_files<'a, I: Inputs, P: Pictures>(
         (spec.IsShown is_asked (option_map (λ name. name.now) name.entry))
         (bytes ∷ map (λ text. text.items) contents.new.texts.items) result
         × IsKeptAs contents.new.journal bytes result }
-    ensures drawn { IsDrawnFor (P.written pictures.new) (option_map (λ name. name.now) name.entry)
-        (map (λ text. text.items) contents.new.texts.items) result }
-    ensures untouched { name.entry ≡ None → pictures.new ≡ pictures.old }
+    ensures drawn { IsDrawnFor (P.written pictures.new)
+        (Does (pictures.new ≡ pictures.old) (P.done pictures.old) (P.done pictures.new))
+        (option_map (λ name. name.now) name.entry) (map (λ text. text.items) contents.new.texts.items) result }
 {
     contents.journal = None;
     let mut names = Vec::new(alloc);

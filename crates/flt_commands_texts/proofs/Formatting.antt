@@ -1,11 +1,13 @@
 -- Files whose texts are laid out: one after the other, what is written into them, and what is said of them.
 use Rattle.std.proofs.Common.{◌≡◌, ◌∙◌, ◌+◌, ◌<◌, ◌||◌, ℕ, Bool, true, false, ap, get_or, take, List, []}
-use Rattle.std.proofs.Common.{◌∷◌, ◌++◌, Bor, Vec, Global, length, map, refl, string_bytes, sym}
+use Rattle.std.proofs.Common.{◌∷◌, ◌++◌, Bor, Vec, Global, append-nil, append_assoc, length, map, refl, string_bytes, subst, sym}
 use Rattle.std.proofs.lemmas.List.Elements.{All-push, All-weaker}
-use Rattle.std.specs.List.{All, list_any}
-use Rattle.flt_files.proofs.Firsts.{any_more}
-use Rattle.flt_files.specs.Attempts.{Attempt}
-use Rattle.flt_commands_texts.specs.Format.{AreFormatted, AreOutcomes, IsDone, IsFileDone, IsOutcome, IsFormatKept, is_wanted}
+use Rattle.std.specs.List.{All}
+use Rattle.flt_files.proofs.Doing.{grows_more}
+use Rattle.flt_files.specs.Attempts.{Attempt, Does, Grows}
+use Rattle.flt_files.specs.Deeds.{Deed}
+use Rattle.flt_commands_texts.specs.Format.{AreFormatted, AreOutcomes, IsDone, IsFileDone, IsOutcome, IsFormatKept}
+use Rattle.flt_commands_texts.specs.Format.{attempts_for, attempts_in}
 use Rattle.flt_commands_texts.specs.Format.{one_more as an_outcome_more}
 use Rattle.flt_files.specs.Inputs.{AreReadIn, Giving, Text}
 use Rattle.flt_commands_texts.specs.declared.answer.TextAnswer.TheVariants.{Formatted}
@@ -54,37 +56,50 @@ pub neither : (a b : Bool) → (a || b) ≡ false → (a ≡ false) × (b ≡ fa
 neither true b h = absurd (cc h)
 neither false b h = (refl, h)
 
-abbrev wants : FormatMode → FileOutcome → Bool
-wants mode file = is_wanted mode file.outcome
+-- one file more
+attempts_more : (mode : FormatMode) (files : List FileOutcome) (file : FileOutcome) →
+    attempts_in mode (files ++ file ∷ []) ≡ attempts_in mode files ++ attempts_for mode file
+attempts_more mode [] file = append-nil (attempts_for mode file)
+attempts_more mode (f ∷ fs) file =
+    ap (λ (more : List Attempt). attempts_for mode f ++ more) (attempts_more mode fs file)
+    ∙ sym (append_assoc (attempts_for mode f) (attempts_in mode fs) (attempts_for mode file))
 
--- where no file is written, all that is written stays as it was
-pub still_more : {P : Type 0} (mode : FormatMode) (files more : List FileOutcome) (file : FileOutcome) (start old new : P) →
-    (list_any (λ (f : FileOutcome). is_wanted mode f.outcome) files ≡ false → old ≡ start) →
-    (is_wanted mode file.outcome ≡ false → new ≡ old) →
-    more ≡ files ++ file ∷ [] → list_any (λ (f : FileOutcome). is_wanted mode f.outcome) more ≡ false → new ≡ start
-still_more mode files more file start old new before one pushed none =
-    let both : (list_any (wants mode) files || is_wanted mode file.outcome) ≡ false =
-    sym (any_more (wants mode) files file) ∙ ap (list_any (wants mode)) (sym pushed) ∙ none in
-    let parts = neither (list_any (wants mode) files) (is_wanted mode file.outcome) both in one parts.1 ∙ before parts.0
+-- what was done, and then what was done for one file more
+module _ {P : Type 0} (done : P → List Deed) (start old new : P) where
+  does_more : (xs ys : List Attempt) → Does (old ≡ start) (done start) (done old) xs → Does (new ≡ old) (done old) (done new) ys →
+      Does (new ≡ start) (done start) (done new) (xs ++ ys)
+  does_more [] [] first second = second ∙ first
+  does_more [] (y ∷ ys) first second = subst (λ p. Grows (done p) (done new) (y ∷ ys)) first second
+  does_more (x ∷ xs) [] first second = subst (λ zs. Grows (done start) (done new) (x ∷ zs)) (sym (append-nil xs))
+      (subst (λ p. Grows (done start) (done p) (x ∷ xs)) (sym second) first)
+  does_more (x ∷ xs) (y ∷ ys) first second = grows_more (done start) (done old) (done new) (x ∷ xs) (y ∷ ys) first second
+
+  pub does_for : (mode : FormatMode) (files more : List FileOutcome) (file : FileOutcome) →
+      Does (old ≡ start) (done start) (done old) (attempts_in mode files) →
+      Does (new ≡ old) (done old) (done new) (attempts_for mode file) → more ≡ files ++ file ∷ [] →
+      Does (new ≡ start) (done start) (done new) (attempts_in mode more)
+  does_for mode files more file before one pushed =
+      subst (Does (new ≡ start) (done start) (done new))
+      (sym (attempts_more mode files file) ∙ ap (attempts_in mode) (sym pushed))
+      (does_more (attempts_in mode files) (attempts_for mode file) before one)
 
 -- ---- what is said, and what is written
 
-none_printed : (files : List FileOutcome) → list_any (λ (f : FileOutcome). is_wanted modes.Print f.outcome) files ≡ false
+none_printed : (files : List FileOutcome) → attempts_in modes.Print files ≡ []
 none_printed [] = refl
 none_printed (f ∷ fs) = none_printed fs
 
-none_checked : (files : List FileOutcome) → list_any (λ (f : FileOutcome). is_wanted modes.Check f.outcome) files ≡ false
+none_checked : (files : List FileOutcome) → attempts_in modes.Check files ≡ []
 none_checked [] = refl
 none_checked (f ∷ fs) = none_checked fs
 
 -- where each file is done in its mode, the files are as `format` must leave them
 pub kept_formatted : (written : Text → Text → Type 0) (does : List Attempt → Type 0) (mode : FormatMode) (found : Outcomes) →
-    All (IsFileDone written mode) found.files.items →
-    (list_any (λ (f : FileOutcome). is_wanted mode f.outcome) found.files.items ≡ false → does []) →
+    All (IsFileDone written mode) found.files.items → does (attempts_in mode found.files.items) →
     IsFormatKept written does mode (Formatted mode found)
-kept_formatted written does modes.Print found done still = still (none_printed found.files.items)
-kept_formatted written does modes.Check found done still = still (none_checked found.files.items)
-kept_formatted written does modes.Write found done still = (done, still)
+kept_formatted written does modes.Print found done did = subst does (none_printed found.files.items) did
+kept_formatted written does modes.Check found done did = subst does (none_checked found.files.items) did
+kept_formatted written does modes.Write found done did = (done, did)
 
 -- outcomes of the files that were read are the layouts of the files that were named
 pub formatted_of : (gives : Giving) (mode : FormatMode) (files : List Text) (r : ReadFiles) (outcomes : Vec FileOutcome Global) →

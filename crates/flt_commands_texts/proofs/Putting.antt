@@ -1,6 +1,5 @@
 -- The files of a driver: one after the other, what is done to them, and what is said of a text whose driver they are.
-use Rattle.std.proofs.Common.{◌≡◌, ◌∙◌, ap, Bool, List, [], ◌∷◌, ◌++◌, Option, Some, None, Ok}
-use Rattle.std.proofs.lemmas.List.{append_assoc}
+use Rattle.std.proofs.Common.{◌≡◌, Bool, List, [], ◌∷◌, ◌++◌, Ok}
 use Rattle.std.proofs.lemmas.List.Elements.{All-cons, All-nil, All-push, All-weaker}
 use Rattle.flt_emit.specs.Files.{installation, user_header}
 use Rattle.flt_graph.specs.declared.graph.Graph.{Graph}
@@ -8,6 +7,8 @@ use Rattle.flt_kinds.specs.declared.slot.Spot.{Spot}
 use Rattle.flt_tree.specs.declared.filter.Filter.{Filter}
 use Rattle.flt_words.specs.declared.request.Part.TheVariants.{Source}
 use Rattle.flt_files.specs.Attempts.{Attempt, Does, Failed, Grows, IsDone, Left, Made, Wrote}
+use Rattle.flt_files.specs.Deeds.{Deed}
+use Rattle.flt_files.proofs.Doing.{grows_more}
 use Rattle.flt_commands_texts.specs.Check.{HasPoints}
 use Rattle.flt_commands_texts.specs.Driver.{AreDone, AreNamed, HasPlace, IsAskedFor, IsPlace, attempts_of}
 use Rattle.flt_commands_texts.specs.Emit.{IsReadBack, part_text}
@@ -25,15 +26,8 @@ use Rattle.flt_commands_texts.specs.Stamp.{stamped}
 
 -- ---- one attempt more
 
--- what grows twice grows by both
-grows_more : (a b c : Option (List Attempt)) (xs ys : List Attempt) → Grows a b xs → Grows b c ys → Grows a c (xs ++ ys)
-grows_more None b c xs ys first second = tt
-grows_more (Some a) None c xs ys first second = absurd first
-grows_more (Some a) (Some b) None xs ys first second = absurd second
-grows_more (Some a) (Some b) (Some c) xs ys first second = second ∙ ap (λ (l : List Attempt). l ++ ys) first ∙ append_assoc a xs ys
-
 -- a first attempt
-pub done_first : (written : Text → Text → Type 0) (before after : Option (List Attempt)) (x : Attempt) → IsDone written x →
+pub done_first : (written : Text → Text → Type 0) (before after : List Deed) (x : Attempt) → IsDone written x →
     Grows before after (x ∷ []) → AreDone written before after (x ∷ [])
 done_first written before after x one grown = record { done = All-push (IsDone written) [] x (All-nil (IsDone written)) one; only = grown }
 
@@ -46,7 +40,7 @@ module _ (old new : Text → Text → Type 0) (kept : (other held : Text) → ol
   still (Failed name) is = tt
 
   -- one more behind others
-  pub done_more : (before mid after : Option (List Attempt)) (xs : List Attempt) (x : Attempt) → AreDone old before mid xs → IsDone new x →
+  pub done_more : (before mid after : List Deed) (xs : List Attempt) (x : Attempt) → AreDone old before mid xs → IsDone new x →
       Grows mid after (x ∷ []) → AreDone new before after (xs ++ x ∷ [])
   done_more before mid after xs x are one grown = record {
     done = All-push (IsDone new) xs x (All-weaker (IsDone old) (IsDone new) still xs are.done) one;
@@ -54,7 +48,7 @@ module _ (old new : Text → Text → Type 0) (kept : (other held : Text) → ol
   }
 
 -- one before others
-pub done_before : (written : Text → Text → Type 0) (before mid after : Option (List Attempt)) (x : Attempt) (xs : List Attempt) →
+pub done_before : (written : Text → Text → Type 0) (before mid after : List Deed) (x : Attempt) (xs : List Attempt) →
     IsDone written x → Grows before mid (x ∷ []) → AreDone written mid after xs → AreDone written before after (x ∷ xs)
 done_before written before mid after x xs one grown are = record {
   done = All-cons (IsDone written) x xs one are.done;
@@ -71,7 +65,7 @@ asked_for gives is_forced name place (Written other rest) known has = rw has kno
 -- ---- all of them
 
 -- there is an attempt, whatever became of a driver
-does_of : (same : Type 0) (old new : Option (List Attempt)) (names : DriverNames) (s h i : Text) (outcome : DriverOutcome) →
+does_of : (same : Type 0) (old new : List Deed) (names : DriverNames) (s h i : Text) (outcome : DriverOutcome) →
     Grows old new (attempts_of names s h i outcome) → Does same old new (attempts_of names s h i outcome)
 does_of same old new names s h i (Kept why) is = is
 does_of same old new names s h i (NoSource Free why) is = is
@@ -82,7 +76,7 @@ does_of same old new names s h i (Written Own rest) is = is
 does_of same old new names s h i (Written Forced rest) is = is
 
 -- the driver of a filter is put where its parts are written
-pub put_known : (written : Text → Text → Type 0) (same : Type 0) (old new : Option (List Attempt)) (folder : Text) (f : Filter)
+pub put_known : (written : Text → Text → Type 0) (same : Type 0) (old new : List Deed) (folder : Text) (f : Filter)
     (listed : List Spot) (driver : Driver) (s h i : Text) → s ≡ stamped (part_text Source listed f) →
     IsReadBack Source f (part_text Source listed f) → h ≡ user_header f →
     i ≡ installation f → AreNamed folder f.name driver.names → AreDone written old new (attempts_of driver.names s h i driver.outcome) →

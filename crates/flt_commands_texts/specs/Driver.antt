@@ -1,9 +1,10 @@
 -- The files of a driver in a folder: their names, what is done to them, and the lines about them. This project's own program.
 use Rattle.std.specs.Char.{is_ascii_graphic}
 use Rattle.std.specs.List.{All}
-use Rattle.std.specs.Prelude.{◌≡◌, ℕ, Bool, true, false, ◌++◌, List, [], ◌∷◌, Option, codes, if◌then◌else◌, map, string_bytes}
+use Rattle.std.specs.Prelude.{◌≡◌, ℕ, Bool, true, false, ◌++◌, List, [], ◌∷◌, codes, if◌then◌else◌, map, string_bytes}
 use Rattle.flt_words.specs.Shown.{visible}
 use Rattle.flt_files.specs.Attempts.{Attempt, Failed, Grows, IsDone, Left, Made, Wrote, made}
+use Rattle.flt_files.specs.Deeds.{Deed}
 use Rattle.flt_files.specs.Inputs.{Giving, Text}
 use Rattle.flt_files.specs.Unwritten.{unwritten_line}
 use Rattle.flt_commands_texts.specs.declared.driver.DriverNames.{DriverNames}
@@ -61,7 +62,7 @@ attempts_of names source header installation (Written place rest) =
     before place (string_bytes names.source) ++ got place (string_bytes names.source) source ∷ rest_of names header installation rest
 
 -- these attempts were made since, and no others, and what got its bytes has them
-pub record AreDone (written : Text → Text → Type 0) (old new : Option (List Attempt)) (attempts : List Attempt) : Type 0 where
+pub record AreDone (written : Text → Text → Type 0) (old new : List Deed) (attempts : List Attempt) : Type 0 where
   pub done : All (IsDone written) attempts
   pub only : Grows old new attempts
 

@@ -1,12 +1,12 @@
 -- What `format` says, and what it writes. This project's own program.
-use Rattle.std.specs.List.{All, list_any}
-use Rattle.std.specs.Prelude.{◌≡◌, ◌≢◌, ℕ, Bool, true, false, List, [], ◌∷◌, ◌++◌, drop, string_bytes, take, Result, Ok, Err}
+use Rattle.std.specs.List.{All}
+use Rattle.std.specs.Prelude.{◌≡◌, ◌≢◌, ℕ, Bool, true, false, flat_map, List, [], ◌∷◌, ◌++◌, drop, string_bytes, take, Result, Ok, Err}
 use Rattle.flt_layout.specs.Formatted.{IsFormatted, IsUnformatted}
 use Rattle.flt_layout.specs.declared.formatted.FormatError.{FormatError}
 use Rattle.flt_layout.specs.declared.formatted.FormatError.TheVariants as error
 use Rattle.flt_words.specs.declared.request.FormatMode.{FormatMode}
 use Rattle.flt_words.specs.declared.request.FormatMode.TheVariants as modes
-use Rattle.flt_files.specs.Attempts.{Attempt}
+use Rattle.flt_files.specs.Attempts.{Attempt, Failed, Wrote}
 use Rattle.flt_files.specs.Inputs.{AreRead, Giving, Text, unread_names}
 use Rattle.flt_files.specs.Split.{IsCertificateStart}
 use Rattle.flt_commands_texts.specs.declared.answer.TextAnswer.{TextAnswer}
@@ -76,11 +76,19 @@ IsFormatSaid gives mode files texts (Err f) = ⊥
 
 -- ---- what is written
 
--- a file is written, or it couldn't be: files are written, and it differs from its layout
-abbrev pub is_wanted : FormatMode → Outcome → Bool
-is_wanted modes.Write (Other bytes) = true
-is_wanted modes.Write (Unwritten bytes why) = true
-is_wanted _ outcome = false
+-- what is done under the name of a file that comes to this: where files are written and it differs from its layout, that is written, or it
+-- couldn't be
+abbrev pub attempts_by : FormatMode → Text → Outcome → List Attempt
+attempts_by modes.Write name (Other bytes) = Wrote name bytes.items ∷ []
+attempts_by modes.Write name (Unwritten bytes why) = Failed name ∷ []
+attempts_by mode name outcome = []
+
+abbrev pub attempts_for : FormatMode → FileOutcome → List Attempt
+attempts_for mode file = attempts_by mode (string_bytes file.name) file.outcome
+
+-- under those of files, one after the other
+abbrev pub attempts_in : FormatMode → List FileOutcome → List Attempt
+attempts_in mode files = flat_map (attempts_for mode) files
 
 -- where files are written, the layout is, under this name, unless it couldn't be
 abbrev pub IsDone : (Text → Text → Type 0) → FormatMode → Text → Outcome → Type 0
@@ -91,14 +99,13 @@ IsDone written mode name outcome = Unit {0}
 abbrev pub IsFileDone : (Text → Text → Type 0) → FormatMode → FileOutcome → Type 0
 IsFileDone written mode file = IsDone written mode (string_bytes file.name) file.outcome
 
--- the layout of each file that differs from it is written there; where none does, all that is written stays as it was
-abbrev pub AreChanged : (Text → Text → Type 0) → Type 0 → TextAnswer → Type 0
-AreChanged written untouched (Formatted mode found) =
-    All (IsFileDone written mode) found.files.items
-    × (list_any (λ (file : FileOutcome). is_wanted mode file.outcome) found.files.items ≡ false → untouched)
-AreChanged written untouched answer = untouched
+-- the layout of each file that differs from it is written there, unless it couldn't be, and nothing else is done
+abbrev pub AreChanged : (Text → Text → Type 0) → (List Attempt → Type 0) → TextAnswer → Type 0
+AreChanged written does (Formatted mode found) =
+    All (IsFileDone written mode) found.files.items × does (attempts_in mode found.files.items)
+AreChanged written does answer = does []
 
 -- where files are written, each layout goes into its file; else nothing is done
 abbrev pub IsFormatKept : (Text → Text → Type 0) → (List Attempt → Type 0) → FormatMode → TextAnswer → Type 0
-IsFormatKept written does modes.Write answer = AreChanged written (does []) answer
+IsFormatKept written does modes.Write answer = AreChanged written does answer
 IsFormatKept written does mode answer = does []

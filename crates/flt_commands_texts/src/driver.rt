@@ -1,10 +1,11 @@
 //! The files of a driver in a folder: their names, how they are written, and the lines about them.
 
 ghost use Rattle.flt_files.specs.Attempts.{Attempt, Failed, Grows, IsDone, Left, Wrote, made};
+ghost use Rattle.flt_files.specs.Deeds.{Deed};
 ghost use Rattle.flt_commands_texts.specs.Driver as spec;
 ghost use Rattle.flt_commands_texts.specs.Stamp.{IsOther, IsOwnSource};
 ghost use Rattle.flt_files.specs.Unwritten.{unwritten_line as line_of_unwritten};
-ghost use Rattle.std.specs.Prelude.{◌≡◌, ◌<◌, ◌++◌, [], ◌∷◌, ℕ, List, Option, IfNone, IfOk, IfSome};
+ghost use Rattle.std.specs.Prelude.{◌≡◌, ◌<◌, ◌++◌, [], ◌∷◌, ℕ, List, IfNone, IfOk, IfSome};
 ghost use Rattle.std.specs.Prelude.{OnErr, OnOk, false, map, string_bytes};
 
 use crate::stamp::is_stamped;
@@ -134,9 +135,9 @@ fn put<P: Pictures>(
     pictures: &mut P,
 ) -> Result<Result<(), Vec<u8>>, AllocError>
     ensures done { IfOk result (λ done. OnOk done (P.written pictures.new name.now bytes.now)) }
-    ensures wrote { IfOk result (λ done. OnOk done (Grows (P.tried pictures.old) (P.tried pictures.new)
+    ensures wrote { IfOk result (λ done. OnOk done (Grows (P.done pictures.old) (P.done pictures.new)
         (Wrote name.now bytes.now ∷ []))) }
-    ensures failed { IfOk result (λ done. OnErr done (Grows (P.tried pictures.old) (P.tried pictures.new) (Failed name.now ∷ []))) }
+    ensures failed { IfOk result (λ done. OnErr done (Grows (P.done pictures.old) (P.done pictures.new) (Failed name.now ∷ []))) }
     ensures kept { (other held : List ℕ) → P.written pictures.old other held → P.written pictures.new other held }
 {
     match pictures.write(alloc, inputs, name, bytes)? {
@@ -158,9 +159,9 @@ fn put_again<P: Pictures>(
     pictures: &mut P,
 ) -> Result<Result<(), Vec<u8>>, AllocError>
     ensures done { IfOk result (λ done. OnOk done (P.written pictures.new name.now bytes.now)) }
-    ensures wrote { IfOk result (λ done. OnOk done (Grows (P.tried pictures.old) (P.tried pictures.new)
+    ensures wrote { IfOk result (λ done. OnOk done (Grows (P.done pictures.old) (P.done pictures.new)
         (Wrote name.now bytes.now ∷ []))) }
-    ensures failed { IfOk result (λ done. OnErr done (Grows (P.tried pictures.old) (P.tried pictures.new) (Failed name.now ∷ []))) }
+    ensures failed { IfOk result (λ done. OnErr done (Grows (P.done pictures.old) (P.done pictures.new) (Failed name.now ∷ []))) }
     ensures kept { (other held : List ℕ) → P.written pictures.old other held → P.written pictures.new other held }
 {
     match pictures.rewrite(alloc, name, read, bytes)? {
@@ -181,12 +182,12 @@ fn put_new<P: Pictures>(
     pictures: &mut P,
 ) -> Result<Result<bool, Vec<u8>>, AllocError>
     ensures done { IfOk result (λ done. IfOk done (λ is_new. IsDone (P.written pictures.new) (made is_new name.now bytes.now))) }
-    ensures made { IfOk result (λ done. IfOk done (λ is_new. Grows (P.tried pictures.old) (P.tried pictures.new)
+    ensures made { IfOk result (λ done. IfOk done (λ is_new. Grows (P.done pictures.old) (P.done pictures.new)
         (made is_new name.now bytes.now ∷ []))) }
-    ensures failed { IfOk result (λ done. OnErr done (Grows (P.tried pictures.old) (P.tried pictures.new) (Failed name.now ∷ []))) }
+    ensures failed { IfOk result (λ done. OnErr done (Grows (P.done pictures.old) (P.done pictures.new) (Failed name.now ∷ []))) }
     ensures kept { (other held : List ℕ) → P.written pictures.old other held → P.written pictures.new other held }
 {
-    match pictures.write_new(name, bytes) {
+    match pictures.write_new(name, bytes)? {
         Ok(is_new) => Ok(Ok(is_new)),
         Err(why) => {
             let lines = unwritten_lines(alloc, name, why)?;
@@ -203,9 +204,9 @@ fn put_installation<P: Pictures>(
     has_new_header: bool,
     pictures: &mut P,
 ) -> Result<RestOutcome, AllocError>
-    ensures { (before : Option (List Attempt)) (source : Attempt) → spec.AreDone (P.written pictures.old) before (P.tried pictures.old)
+    ensures { (before : List Deed) (source : Attempt) → spec.AreDone (P.written pictures.old) before (P.done pictures.old)
         (source ∷ made has_new_header (string_bytes names.now.header) parts.now.header.items ∷ []) →
-        IfOk result (λ rest. spec.AreDone (P.written pictures.new) before (P.tried pictures.new)
+        IfOk result (λ rest. spec.AreDone (P.written pictures.new) before (P.done pictures.new)
         (source ∷ spec.rest_of names.now parts.now.header.items parts.now.installation.items rest)) }
 {
     let bytes = parts.installation.as_slice();
@@ -228,8 +229,8 @@ fn put_rest<P: Pictures>(
     parts: &DriverParts,
     pictures: &mut P,
 ) -> Result<RestOutcome, AllocError>
-    ensures { (before : Option (List Attempt)) (source : Attempt) → spec.AreDone (P.written pictures.old) before (P.tried pictures.old)
-        (source ∷ []) → IfOk result (λ rest. spec.AreDone (P.written pictures.new) before (P.tried pictures.new)
+    ensures { (before : List Deed) (source : Attempt) → spec.AreDone (P.written pictures.old) before (P.done pictures.old)
+        (source ∷ []) → IfOk result (λ rest. spec.AreDone (P.written pictures.new) before (P.done pictures.new)
         (source ∷ spec.rest_of names.now parts.now.header.items parts.now.installation.items rest)) }
 {
     let bytes = parts.header.as_slice();
@@ -247,7 +248,7 @@ fn put_forced<P: Pictures>(
     parts: &DriverParts,
     pictures: &mut P,
 ) -> Result<DriverOutcome, AllocError>
-    ensures done { IfOk result (λ outcome. spec.AreDone (P.written pictures.new) (P.tried pictures.old) (P.tried pictures.new)
+    ensures done { IfOk result (λ outcome. spec.AreDone (P.written pictures.new) (P.done pictures.old) (P.done pictures.new)
         (spec.attempts_of names.now parts.now.source.items parts.now.header.items parts.now.installation.items outcome)) }
     ensures place { IfOk result (spec.HasPlace SourcePlace.Forced) }
 {
@@ -270,8 +271,8 @@ fn put_over<P: Pictures>(
     found: &[u8],
     pictures: &mut P,
 ) -> Result<DriverOutcome, AllocError>
-    ensures done { (before : Option (List Attempt)) → Grows before (P.tried pictures.old) (Left (string_bytes names.now.source) ∷ []) →
-        IfOk result (λ outcome. spec.AreDone (P.written pictures.new) before (P.tried pictures.new)
+    ensures done { (before : List Deed) → Grows before (P.done pictures.old) (Left (string_bytes names.now.source) ∷ []) →
+        IfOk result (λ outcome. spec.AreDone (P.written pictures.new) before (P.done pictures.new)
         (spec.attempts_of names.now parts.now.source.items parts.now.header.items parts.now.installation.items outcome)) }
     ensures place { IfOk result (spec.HasPlace SourcePlace.Own) }
 {
@@ -313,8 +314,8 @@ fn put_beside<I: Inputs, P: Pictures>(
     parts: &DriverParts,
     pictures: &mut P,
 ) -> Result<DriverOutcome, AllocError>
-    ensures done { (before : Option (List Attempt)) → Grows before (P.tried pictures.old) (Left (string_bytes names.now.source) ∷ []) →
-        IfOk result (λ outcome. spec.AreDone (P.written pictures.new) before (P.tried pictures.new)
+    ensures done { (before : List Deed) → Grows before (P.done pictures.old) (Left (string_bytes names.now.source) ∷ []) →
+        IfOk result (λ outcome. spec.AreDone (P.written pictures.new) before (P.done pictures.new)
         (spec.attempts_of names.now parts.now.source.items parts.now.header.items parts.now.installation.items outcome)) }
     ensures asked { IfOk result (spec.IsAskedFor (I.gives inputs.now) false (string_bytes names.now.source)) }
 {
@@ -336,7 +337,7 @@ pub(crate) fn put_driver<I: Inputs, P: Pictures>(
     parts: &DriverParts,
     pictures: &mut P,
 ) -> Result<DriverOutcome, AllocError>
-    ensures done { IfOk result (λ outcome. spec.AreDone (P.written pictures.new) (P.tried pictures.old) (P.tried pictures.new)
+    ensures done { IfOk result (λ outcome. spec.AreDone (P.written pictures.new) (P.done pictures.old) (P.done pictures.new)
         (spec.attempts_of names.now parts.now.source.items parts.now.header.items parts.now.installation.items outcome)) }
     ensures asked { IfOk result (spec.IsAskedFor (I.gives inputs.now) is_forced (string_bytes names.now.source)) }
 {

@@ -63,7 +63,7 @@ fn write_known<I: Inputs, P: Pictures>(
     requires well_formed { IsWellFormed tree.now.filter }
     requires fit { returns_fit tree.now.filter ≡ true }
     ensures put { IfOk result (spec.IsPut (P.written pictures.new)
-        (Does (pictures.new ≡ pictures.old) (P.tried pictures.old) (P.tried pictures.new)) folder.now tree.now.filter listed.now) }
+        (Does (pictures.new ≡ pictures.old) (P.done pictures.old) (P.done pictures.new)) folder.now tree.now.filter listed.now) }
     ensures asked { IfOk result (λ driver. IsAskedFor (I.gives inputs.now) is_forced (string_bytes driver.names.source) driver.outcome) }
 {
     let names = names_in(alloc, folder, tree.filter.name.as_slice())?;
@@ -87,7 +87,7 @@ fn write_filter<I: Inputs, P: Pictures>(
     requires well_formed { IsWellFormed tree.now.filter }
     ensures writes { IfOk result (spec.Writes (I.gives inputs.now) is_forced folder.now tree.now.filter graph.now) }
     ensures put { IfOk result (spec.IsPutFor (P.written pictures.new)
-        (Does (pictures.new ≡ pictures.old) (P.tried pictures.old) (P.tried pictures.new)) folder.now tree.now.filter graph.now) }
+        (Does (pictures.new ≡ pictures.old) (P.done pictures.old) (P.done pictures.new)) folder.now tree.now.filter graph.now) }
 {
     let listed = match context_kinds(alloc, tree, graph)? {
         ContextKinds::Refused(mixed) => return Ok(TextAnswer::NotEmitted(mixed_lines(
@@ -128,7 +128,7 @@ fn write_analysed<'a, I: Inputs, P: Pictures>(
 ) -> Result<TextAnswer, Failure<'a>>
     ensures said { spec.IsEmittedInto (I.gives inputs.now) is_forced folder.now (text.now ∷ []) result }
     ensures put { spec.ArePut (P.written pictures.new)
-        (Does (pictures.new ≡ pictures.old) (P.tried pictures.old) (P.tried pictures.new)) folder.now (text.now ∷ []) result }
+        (Does (pictures.new ≡ pictures.old) (P.done pictures.old) (P.done pictures.new)) folder.now (text.now ∷ []) result }
 {
     let tree = parse(alloc, text)?;
     let graph = lower(alloc, &tree)?;
@@ -154,7 +154,7 @@ fn write_checked<'a, I: Inputs, P: Pictures>(
 ) -> Result<TextAnswer, Failure<'a>>
     ensures said { spec.IsEmittedInto (I.gives inputs.now) is_forced folder.now (text.now ∷ certificate.now ∷ []) result }
     ensures put { spec.ArePut (P.written pictures.new)
-        (Does (pictures.new ≡ pictures.old) (P.tried pictures.old) (P.tried pictures.new)) folder.now
+        (Does (pictures.new ≡ pictures.old) (P.done pictures.old) (P.done pictures.new)) folder.now
         (text.now ∷ certificate.now ∷ []) result }
 {
     let tree = parse(alloc, text)?;
@@ -182,7 +182,7 @@ pub fn emit_files_into<'a, I: Inputs, P: Pictures>(
     ensures said { Says (I.gives inputs.now) (names_of (EmitInto folder.now is_forced file.entry.now (option_map (λ name. name.now) cert.entry)))
         (spec.IsEmittedInto (I.gives inputs.now) is_forced folder.now) (map (λ text. text.items) contents.new.texts.items) result }
     ensures put { spec.ArePut (P.written pictures.new)
-        (Does (pictures.new ≡ pictures.old) (P.tried pictures.old) (P.tried pictures.new)) folder.now
+        (Does (pictures.new ≡ pictures.old) (P.done pictures.old) (P.done pictures.new)) folder.now
         (map (λ text. text.items) contents.new.texts.items) result }
 {
     match cert {

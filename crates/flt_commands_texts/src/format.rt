@@ -1,7 +1,7 @@
 //! The outcomes of `format` for the names that it is given, and the files that it writes.
 
-ghost use Rattle.std.specs.List.{All, list_any};
-ghost use Rattle.std.specs.Prelude.{◌≡◌, ◌≢◌, ◌++◌, ℕ, List, IfOk, length, map, string_bytes, true, false};
+ghost use Rattle.std.specs.List.{All};
+ghost use Rattle.std.specs.Prelude.{◌≡◌, ◌≢◌, ◌++◌, ℕ, List, IfOk, length, map, string_bytes, false};
 ghost use Rattle.flt_files.specs.Attempts.{Does};
 ghost use Rattle.flt_commands_texts.specs.Format as spec;
 ghost use Rattle.flt_commands_texts.specs.declared.answer.TextAnswer.TheVariants.{Formatted};
@@ -58,7 +58,8 @@ fn put_layout<P: Pictures>(
 ) -> Result<Outcome, AllocError>
     ensures comes { (input : List ℕ) → spec.IsLayout input layout.items → layout.items ≢ input → IfOk result (spec.ComesTo input) }
     ensures done { IfOk result (spec.IsDone (P.written pictures.new) FormatMode.Write name.now) }
-    ensures wanted { IfOk result (λ outcome. spec.is_wanted FormatMode.Write outcome ≡ true) }
+    ensures did { IfOk result (λ outcome. Does (pictures.new ≡ pictures.old) (P.done pictures.old) (P.done pictures.new)
+        (spec.attempts_by FormatMode.Write name.now outcome)) }
     ensures kept { (other bytes : List ℕ) → P.written pictures.old other bytes → P.written pictures.new other bytes }
 {
     match pictures.rewrite(alloc, name, read, layout.as_slice())? {
@@ -80,7 +81,8 @@ fn put_other<P: Pictures>(
 ) -> Result<Outcome, AllocError>
     ensures comes { (input : List ℕ) → spec.ComesTo input outcome → IfOk result (spec.ComesTo input) }
     ensures done { IfOk result (spec.IsDone (P.written pictures.new) FormatMode.Write name.now) }
-    ensures still { IfOk result (λ outcome. spec.is_wanted FormatMode.Write outcome ≡ false → pictures.new ≡ pictures.old) }
+    ensures did { spec.is_unwritten outcome ≡ false → IfOk result (λ outcome. Does (pictures.new ≡ pictures.old)
+        (P.done pictures.old) (P.done pictures.new) (spec.attempts_by FormatMode.Write name.now outcome)) }
     ensures kept { (other bytes : List ℕ) → P.written pictures.old other bytes → P.written pictures.new other bytes }
 {
     match outcome {
@@ -105,7 +107,8 @@ fn written<P: Pictures>(
     ensures comes { (input : List ℕ) → spec.ComesTo input outcome → IfOk result (spec.ComesTo input) }
     ensures fits { IfOk result (spec.MayBe mode) }
     ensures done { IfOk result (spec.IsDone (P.written pictures.new) mode name.now) }
-    ensures still { IfOk result (λ outcome. spec.is_wanted mode outcome ≡ false → pictures.new ≡ pictures.old) }
+    ensures did { IfOk result (λ outcome. Does (pictures.new ≡ pictures.old) (P.done pictures.old) (P.done pictures.new)
+        (spec.attempts_by mode name.now outcome)) }
     ensures kept { (other bytes : List ℕ) → P.written pictures.old other bytes → P.written pictures.new other bytes }
 {
     match mode {
@@ -126,7 +129,8 @@ fn file_outcome<P: Pictures>(
     ensures named { IfOk result (λ file. string_bytes file.name ≡ name.now) }
     ensures is { IfOk result (spec.IsOutcome mode input.now) }
     ensures done { IfOk result (spec.IsFileDone (P.written pictures.new) mode) }
-    ensures still { IfOk result (λ file. spec.is_wanted mode file.outcome ≡ false → pictures.new ≡ pictures.old) }
+    ensures did { IfOk result (λ file. Does (pictures.new ≡ pictures.old) (P.done pictures.old) (P.done pictures.new)
+        (spec.attempts_for mode file)) }
     ensures kept { (other bytes : List ℕ) → P.written pictures.old other bytes → P.written pictures.new other bytes }
 {
     let outcome = outcome_of(alloc, input)?;
@@ -147,8 +151,8 @@ fn file_outcomes<P: Pictures>(
     ensures are { IfOk result (λ files. spec.AreOutcomes mode (map (λ name. name.now) names.now) (map (λ text. text.items) texts.now)
         files.items) }
     ensures done { IfOk result (λ files. All (spec.IsFileDone (P.written pictures.new) mode) files.items) }
-    ensures still { IfOk result (λ files. list_any (λ file. spec.is_wanted mode file.outcome) files.items ≡ false →
-        pictures.new ≡ pictures.old) }
+    ensures did { IfOk result (λ files. Does (pictures.new ≡ pictures.old) (P.done pictures.old) (P.done pictures.new)
+        (spec.attempts_in mode files.items)) }
 {
     let mut files = Vec::new(alloc);
     for (number, text) in texts.iter().enumerate() {
@@ -170,7 +174,7 @@ pub fn format_files<I: Inputs, P: Pictures>(
     ensures said { IfOk result (spec.AreFormatted (I.gives inputs.now) mode (map (λ name. name.now) files.now)
         (map (λ text. text.items) contents.new.texts.items)) }
     ensures kept { IfOk result (λ found. spec.IsFormatKept (P.written pictures.new)
-        (Does (pictures.new ≡ pictures.old) (P.tried pictures.old) (P.tried pictures.new)) mode (Formatted mode found)) }
+        (Does (pictures.new ≡ pictures.old) (P.done pictures.old) (P.done pictures.new)) mode (Formatted mode found)) }
 {
     let read = read_each(alloc, inputs, files)?;
     let names = read.names;

@@ -1,7 +1,10 @@
+pub mod Attempting
 pub mod ButOne
+pub mod Doing
 pub mod Ended
 pub mod Firsts
 pub mod Lengths
 pub mod OnePlace
 pub mod Readings
+pub mod Settling
 pub mod SomeRead

@@ -1,4 +1,5 @@
 pub mod Attempts
+pub mod Deeds
 pub mod Failure
 pub mod Flaws
 pub mod Inputs

@@ -1,17 +1,20 @@
 //! The system that the program runs on: its files by their paths, and its standard input.
 
-ghost use Rattle.std.specs.Prelude.{◌≡◌};
+ghost use Rattle.std.specs.Prelude.{◌≡◌, []};
 
-use crate::inputs::is_standard;
+use crate::deeds::{Act, Deeds, Fate};
+use crate::inputs::{is_standard, read_within};
 use crate::system::{Place, Reader, System};
 use crate::unread::InputFault;
 use crate::unwritten::OutputFault;
 use flt_model::ReadFault;
+use std::alloc::AllocError;
 use std::cell::Cell;
+use std::cmp::min;
 use std::fs::{self, File, Metadata, OpenOptions};
-use std::io;
-use std::io::{Read, Stdin};
+use std::io::{Read, Stdin, Write};
 use std::os::unix::fs::{MetadataExt, OpenOptionsExt, fchown};
+use std::{io, str};
 
 /// A file or a stream of the system that is read, with a count of its failures and the reason of the last one.
 #[derive(Drop)]
@@ -73,6 +76,34 @@ pub struct BarredFile {
     pub why: InputFault,
 }
 
+/// A file of the system that is written, up to the size that the system allows. Past that a write fails; the system would end the program
+/// by a signal there.
+#[derive(Drop)]
+pub struct BoundedFile {
+    file: File,
+    /// The number of bytes that it may still take.
+    room: u64,
+}
+
+impl Write for BoundedFile {
+    fn write(&mut self, buf: &[u8]) -> io::Result<usize> {
+        if buf.is_empty() {
+            return Ok(0);
+        }
+        let room = usize::try_from(self.room).unwrap_or(usize::MAX);
+        if room == 0 {
+            return Err(io::Error::from(io::ErrorKind::FileTooLarge));
+        }
+        let count = self.file.write(&buf[..min(room, buf.len())])?;
+        self.room = self.room.saturating_sub(count as u64);
+        Ok(count)
+    }
+
+    fn flush(&mut self) -> io::Result<()> {
+        self.file.flush()
+    }
+}
+
 /// The system that the program runs on: its files by their paths, and the standard input.
 #[derive(Drop)]
 pub struct HostSystem<'a> {
@@ -81,6 +112,8 @@ pub struct HostSystem<'a> {
     barred: &'a [BarredFile],
     /// Why the last file couldn't be opened, if it couldn't.
     fault: Cell<Option<InputFault>>,
+    /// Its deeds.
+    deeds: Deeds,
 }
 
 impl System for HostSystem<'_> {
@@ -88,10 +121,15 @@ impl System for HostSystem<'_> {
 
     type Input = CountedReader<Stdin>;
 
-    type Made = File;
+    type Made = BoundedFile;
 
     ghost use Rattle.std.specs.Prelude.{⊤};
+    ghost use Rattle.flt_files.specs.Deeds.{deeds_in};
     ghost use Rattle.flt_files.specs.System.{Unknown, Unsaid, Unseen};
+
+    ghost disk = { λ _. 0 };
+
+    ghost done = { λ host. deeds_in host.deeds };
 
     // Nothing is known of what its files hold, of which there are, and of when a read fails.
     ghost holds = { λ _. Unknown };
@@ -128,44 +166,63 @@ impl System for HostSystem<'_> {
         CountedReader::new(self.rt.stdin())
     }
 
-    fn place(&self, name: &str, inputs: &[&str]) -> Result<Place, OutputFault> {
-        match fs::symlink_metadata(self.rt, name) {
-            Ok(found) if found.is_symlink() => self.place_led_to(name),
-            Ok(found) if found.is_dir() => Err(OutputFault::Folder),
-            Ok(found) if !found.is_file() => Ok(Place::Stream),
-            Ok(found) if self.is_among(&found, inputs) => Err(OutputFault::Input),
-            Ok(_) => self.place_of_file(name),
-            Err(fault) if fault.kind() == io::ErrorKind::NotFound => Ok(Place::Free),
+    fn place(
+        &mut self,
+        name: &str,
+        inputs: &[&str],
+    ) -> Result<Result<Place, OutputFault>, AllocError> {
+        self.deeds
+            .add(self.rt.alloc(), name, None, Act::Looked(None))?;
+        match self.place_of(name, inputs) {
+            Ok(place) => {
+                self.deeds.settle(Act::Looked(Some(place)));
+                Ok(Ok(place))
+            }
+            Err(why) => Ok(Err(why)),
+        }
+    }
+
+    fn stream(&mut self, name: &str) -> Result<Result<BoundedFile, OutputFault>, AllocError> {
+        self.deeds.add(self.rt.alloc(), name, None, Act::Opened)?;
+        match self.open_to_write(name) {
+            Ok(file) => Ok(Ok(BoundedFile {
+                file,
+                room: u64::MAX,
+            })),
+            Err(why) => Ok(Err(why)),
+        }
+    }
+
+    fn create(
+        &mut self,
+        name: &str,
+        target: Option<&str>,
+        is_private: bool,
+    ) -> Result<Result<Option<BoundedFile>, OutputFault>, AllocError> {
+        let room = size_limit(self.rt)?;
+        self.deeds.add(self.rt.alloc(), name, target, Act::NotMade)?;
+        match self.new_file(name, is_private) {
+            Ok(Some(file)) => {
+                self.deeds.settle(Act::Made(Fate::Stays));
+                Ok(Ok(Some(BoundedFile { file, room })))
+            }
+            Ok(None) => Ok(Ok(None)),
+            Err(why) => Ok(Err(why)),
+        }
+    }
+
+    fn put(&mut self, file: BoundedFile, made: &str, name: &str) -> Result<(), OutputFault> {
+        match self.try_put(&file.file, made, name) {
+            Ok(()) => {
+                self.deeds.settle(Act::Made(Fate::Replaces));
+                Ok(())
+            }
             Err(fault) => Err(OutputFault::Refused(fault)),
         }
     }
 
-    fn stream(&self, name: &str) -> Result<File, OutputFault> {
-        self.open_to_write(name)
-    }
-
-    fn create(&self, name: &str, is_private: bool) -> Result<Option<File>, OutputFault> {
-        let rights = if is_private { PRIVATE } else { COMMON };
-        match OpenOptions::new()
-            .write(true)
-            .create_new(true)
-            .mode(rights)
-            .open(self.rt, name)
-        {
-            Ok(file) => Ok(Some(file)),
-            Err(fault) if fault.kind() == io::ErrorKind::AlreadyExists => Ok(None),
-            Err(fault) => Err(OutputFault::Refused(fault)),
-        }
-    }
-
-    fn put(&self, file: File, made: &str, name: &str) -> Result<(), OutputFault> {
-        match self.try_put(&file, made, name) {
-            Ok(()) => Ok(()),
-            Err(fault) => Err(OutputFault::Refused(fault)),
-        }
-    }
-
-    fn discard(&self, made: &str) {
+    fn discard(&mut self, made: &str) {
+        self.deeds.settle(Act::Made(Fate::Removed));
         let _ = fs::remove_file(self.rt, made);
     }
 
@@ -179,9 +236,22 @@ impl System for HostSystem<'_> {
 
 impl<'a> HostSystem<'a> {
     /// The system of a runtime, without these files.
-    pub fn new(rt: &'a HostRuntime, barred: &'a [BarredFile]) -> HostSystem<'a> {
-        let fault = Cell::new(None);
-        HostSystem { rt, barred, fault }
+    pub fn new(rt: &'a HostRuntime, barred: &'a [BarredFile]) -> HostSystem<'a>
+        ensures { result.deeds.each.items ≡ [] }
+    {
+        HostSystem {
+            rt,
+            barred,
+            fault: Cell::new(None),
+            deeds: Deeds::new(rt.alloc()),
+        }
+    }
+
+    /// Its deeds, one after the other.
+    pub fn into_deeds(self) -> Deeds
+        ensures { result ≡ self.entry.deeds }
+    {
+        self.deeds
     }
 }
 
@@ -191,6 +261,34 @@ impl HostSystem<'_> {
         match fs::metadata(self.rt, path_of(name)) {
             Ok(found) if found.is_file() => InputFault::TooLong,
             _ => InputFault::Endless,
+        }
+    }
+
+    /// The place of a name, if it may be written.
+    fn place_of(&self, name: &str, inputs: &[&str]) -> Result<Place, OutputFault> {
+        match fs::symlink_metadata(self.rt, name) {
+            Ok(found) if found.is_symlink() => self.place_led_to(name),
+            Ok(found) if found.is_dir() => Err(OutputFault::Folder),
+            Ok(found) if !found.is_file() => Ok(Place::Stream),
+            Ok(found) if self.is_among(&found, inputs) => Err(OutputFault::Input),
+            Ok(_) => self.place_of_file(name),
+            Err(fault) if fault.kind() == io::ErrorKind::NotFound => Ok(Place::Free),
+            Err(fault) => Err(OutputFault::Refused(fault)),
+        }
+    }
+
+    /// A new and empty file of a name; none if the name is taken.
+    fn new_file(&self, name: &str, is_private: bool) -> Result<Option<File>, OutputFault> {
+        let rights = if is_private { PRIVATE } else { COMMON };
+        match OpenOptions::new()
+            .write(true)
+            .create_new(true)
+            .mode(rights)
+            .open(self.rt, name)
+        {
+            Ok(file) => Ok(Some(file)),
+            Err(fault) if fault.kind() == io::ErrorKind::AlreadyExists => Ok(None),
+            Err(fault) => Err(OutputFault::Refused(fault)),
         }
     }
 
@@ -245,6 +343,35 @@ impl HostSystem<'_> {
         file.sync_all()?;
         fs::rename(self.rt, made, name)
     }
+}
+
+/// Where the system says how great a file of this process may become, in a line that begins so.
+const LIMITS: &str = "/proc/self/limits";
+
+const SIZE_LIMIT: &[u8] = b"Max file size";
+
+/// The greatest number of bytes of a file of this process, as far as the system says one.
+fn size_limit(rt: &HostRuntime) -> Result<u64, AllocError> {
+    let Ok(file) = fs::open(rt, LIMITS) else {
+        return Ok(u64::MAX);
+    };
+    let mut file = CountedReader::new(file);
+    let Some(limits) = read_within(rt.alloc(), &mut file)? else {
+        return Ok(u64::MAX);
+    };
+    for line in limits.as_slice().split(|byte| *byte == b'\n') {
+        if let Some(rest) = line.strip_prefix(SIZE_LIMIT) {
+            return Ok(first_number(rest).unwrap_or(u64::MAX));
+        }
+    }
+    Ok(u64::MAX)
+}
+
+/// The number in a line, if one is its first word.
+fn first_number(line: &[u8]) -> Option<u64> {
+    let words = str::from_utf8(line).ok()?;
+    let word = words.trim_start().split(' ').next()?;
+    word.parse().ok()
 }
 
 /// The rights of a new file that only its owner may read and write.

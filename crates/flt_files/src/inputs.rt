@@ -6,6 +6,7 @@ ghost use Rattle.std.specs.Prelude.{IfSome, OnErr, OnOk, ◌&&◌, None, Some, f
 ghost use Rattle.std.specs.List.{list_any};
 ghost use Rattle.std.specs.Prelude;
 ghost use Rattle.flt_files.specs.Attempts as attempts;
+ghost use Rattle.flt_files.specs.Deeds as deeds;
 ghost use Rattle.flt_files.specs.Inputs as spec;
 ghost use Rattle.flt_files.specs.System as system;
 
@@ -56,8 +57,8 @@ pub trait Pictures {
     // What holds once these bytes are written under a name.
     ghost written: { Self → List ℕ → List ℕ → Type 0 };
 
-    // What was done so far under names, in order, where that is known.
-    ghost tried: { Self → Option (List attempts.Attempt) };
+    // The deeds so far, in order.
+    ghost done: { Self → List deeds.Deed };
 
     // Something is there under this name.
     ghost has: { Self → List ℕ → Type 0 };
@@ -67,6 +68,10 @@ pub trait Pictures {
 
     /// Writes these bytes as the file of this name, unless it is one of the inputs. Returns why that failed, if it did; a regular file is
     /// then as it was.
+    ///
+    /// # Errors
+    ///
+    /// If memory is refused.
     fn write(
         &mut self,
         alloc: Global,
@@ -74,16 +79,21 @@ pub trait Pictures {
         name: &str,
         bytes: &[u8],
     ) -> Result<Result<(), OutputFault>, AllocError>
-        ensures done { IfOk result (λ done. OnOk done (written self.new name.now bytes.now)) }
-        ensures wrote { IfOk result (λ done. OnOk done (attempts.Grows (tried self.old) (tried self.new)
+        ensures done { IfOk result (λ tried. OnOk tried (written self.new name.now bytes.now)) }
+        ensures wrote { IfOk result (λ tried. OnOk tried (attempts.Grows (done self.old) (done self.new)
             (attempts.Wrote name.now bytes.now ∷ []))) }
-        ensures failed { IfOk result (λ done. OnErr done (attempts.Grows (tried self.old) (tried self.new)
+        ensures failed { IfOk result (λ tried. OnErr tried (attempts.Grows (done self.old) (done self.new)
             (attempts.Failed name.now ∷ []))) }
+        ensures refused { OnErr result (deeds.Adds (done self.old) (done self.new) (deeds.IsCutShort name.now)) }
         // What was written before is written still.
         ensures kept { (other held : List ℕ) → written self.old other held → written self.new other held };
 
     /// Writes these bytes as the file of this name, if it still has the bytes that were read, or has these already. Returns why that failed,
     /// if it did; the file is then as it was.
+    ///
+    /// # Errors
+    ///
+    /// If memory is refused.
     fn rewrite(
         &mut self,
         alloc: Global,
@@ -91,22 +101,34 @@ pub trait Pictures {
         read: &[u8],
         bytes: &[u8],
     ) -> Result<Result<(), OutputFault>, AllocError>
-        ensures done { IfOk result (λ done. OnOk done (written self.new name.now bytes.now)) }
-        ensures held { IfOk result (λ done. OnOk done (held self.new name.now read.now ⊎ held self.new name.now bytes.now)) }
-        ensures wrote { IfOk result (λ done. OnOk done (attempts.Grows (tried self.old) (tried self.new)
+        ensures done { IfOk result (λ tried. OnOk tried (written self.new name.now bytes.now)) }
+        ensures held { IfOk result (λ tried. OnOk tried (held self.new name.now read.now ⊎ held self.new name.now bytes.now)) }
+        ensures wrote { IfOk result (λ tried. OnOk tried (attempts.Grows (done self.old) (done self.new)
             (attempts.Wrote name.now bytes.now ∷ []))) }
-        ensures failed { IfOk result (λ done. OnErr done (attempts.Grows (tried self.old) (tried self.new)
+        ensures failed { IfOk result (λ tried. OnErr tried (attempts.Grows (done self.old) (done self.new)
             (attempts.Failed name.now ∷ []))) }
+        ensures refused { OnErr result (deeds.Adds (done self.old) (done self.new) (deeds.IsCutShort name.now)) }
         ensures kept { (other held : List ℕ) → written self.old other held → written self.new other held };
 
     /// Writes these bytes as a new file of this name. Returns false if something of this name is there, which stays as it is; or why no
     /// file could be made.
-    fn write_new(&mut self, name: &str, bytes: &[u8]) -> Result<bool, OutputFault>
-        ensures done { IfOk result (λ is_new. attempts.IsDone (written self.new) (attempts.made is_new name.now bytes.now)) }
-        ensures made { IfOk result (λ is_new. attempts.Grows (tried self.old) (tried self.new)
-            (attempts.made is_new name.now bytes.now ∷ [])) }
-        ensures taken { IfOk result (λ is_new. is_new ≡ false → has self.new name.now) }
-        ensures failed { OnErr result (attempts.Grows (tried self.old) (tried self.new) (attempts.Failed name.now ∷ [])) }
+    ///
+    /// # Errors
+    ///
+    /// If memory is refused.
+    fn write_new(
+        &mut self,
+        name: &str,
+        bytes: &[u8],
+    ) -> Result<Result<bool, OutputFault>, AllocError>
+        ensures done { IfOk result (λ tried. IfOk tried (λ is_new.
+            attempts.IsDone (written self.new) (attempts.made is_new name.now bytes.now))) }
+        ensures made { IfOk result (λ tried. IfOk tried (λ is_new. attempts.Grows (done self.old) (done self.new)
+            (attempts.made is_new name.now bytes.now ∷ []))) }
+        ensures taken { IfOk result (λ tried. IfOk tried (λ is_new. is_new ≡ false → has self.new name.now)) }
+        ensures failed { IfOk result (λ tried. OnErr tried (attempts.Grows (done self.old) (done self.new)
+            (attempts.Failed name.now ∷ []))) }
+        ensures refused { OnErr result (done self.new ≡ done self.old) }
         ensures kept { (other held : List ℕ) → written self.old other held → written self.new other held };
 }
 

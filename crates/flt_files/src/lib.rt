@@ -3,6 +3,7 @@
 #![tactic(auto)]
 
 mod contents;
+mod deeds;
 mod failure;
 mod flaws;
 mod host_system;
@@ -15,11 +16,13 @@ mod system;
 mod texts;
 mod unread;
 mod unwritten;
+mod written;
 
 pub use contents::Contents;
+pub use deeds::{Act, Deed, Deeds, Fate};
 pub use failure::Failure;
 pub use flaws::{FilePlace, flaw_line};
-pub use host_system::{BarredFile, CountedReader, HostSystem};
+pub use host_system::{BarredFile, BoundedFile, CountedReader, HostSystem};
 pub use inputs::{
     Inputs, MAX_INPUT, Pictures, ReadFiles, is_standard, read_all, read_each, read_pieces_within,
     read_text_within, read_with_journal, read_within,
@@ -32,3 +35,4 @@ pub use system::{Place, Reader, System};
 pub use texts::Texts;
 pub use unread::{InputFault, UnreadFile, status_beside};
 pub use unwritten::{OutputFault, unwritten_line, unwritten_lines};
+pub use written::WrittenFiles;

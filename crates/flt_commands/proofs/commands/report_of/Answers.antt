@@ -9,8 +9,8 @@ pub returns-in-Check-clause-answers : goal.returns-in-Check-clause-answers
 returns-in-Check-clause-answers g c =
     let request = Check c.in-Check.file.now (option_map (λ name. name.now) c.in-Check.cert) in
     let does =
-    Does (c.args.pictures.now ≡ c.args.pictures.now) (g.P.Pictures.tried c.args.pictures.now)
-    (g.P.Pictures.tried c.args.pictures.now) in
+    Does (c.args.pictures.now ≡ c.args.pictures.now) (g.P.Pictures.done c.args.pictures.now)
+    (g.P.Pictures.done c.args.pictures.now) in
     answers_of c.covered_texts_break_nothing.ensures c.driven_texts_break_nothing.ensures
     c.fails_exactly_where_nothing_is_spelled.ensures.nowhere _ _ _ does _ request _ _ _
     (rw c.in-Check.is at c.in_ok-text.ensures) (c.check_files-said.result, c.of_text.ensures, rw c.last_of.ensures at c.check_files-said.ensures) refl
@@ -21,8 +21,8 @@ pub returns-in-Analyse-clause-answers : goal.returns-in-Analyse-clause-answers
 returns-in-Analyse-clause-answers g c =
     let request = Analyse c.in-Analyse.file.now in
     let does =
-    Does (c.args.pictures.now ≡ c.args.pictures.now) (g.P.Pictures.tried c.args.pictures.now)
-    (g.P.Pictures.tried c.args.pictures.now) in
+    Does (c.args.pictures.now ≡ c.args.pictures.now) (g.P.Pictures.done c.args.pictures.now)
+    (g.P.Pictures.done c.args.pictures.now) in
     answers_of c.covered_texts_break_nothing.ensures c.driven_texts_break_nothing.ensures
     c.fails_exactly_where_nothing_is_spelled.ensures.nowhere _ _ _ does _ request _ _ _
     (rw c.in-Analyse.is at c.in_ok-text.ensures)
@@ -35,8 +35,8 @@ pub returns-in-Thin-clause-answers : goal.returns-in-Thin-clause-answers
 returns-in-Thin-clause-answers g c =
     let request = Thin c.in-Thin.file.now (option_map (λ name. name.now) c.in-Thin.cert) in
     let does =
-    Does (c.args.pictures.now ≡ c.args.pictures.now) (g.P.Pictures.tried c.args.pictures.now)
-    (g.P.Pictures.tried c.args.pictures.now) in
+    Does (c.args.pictures.now ≡ c.args.pictures.now) (g.P.Pictures.done c.args.pictures.now)
+    (g.P.Pictures.done c.args.pictures.now) in
     answers_of c.covered_texts_break_nothing.ensures c.driven_texts_break_nothing.ensures
     c.fails_exactly_where_nothing_is_spelled.ensures.nowhere _ _ _ does _ request _ _ _
     (rw c.in-Thin.is at c.in_ok-text.ensures)
@@ -49,8 +49,8 @@ returns-in-Run-default-true-default-default-clause-answers g c =
     let request = Run c.in-Run-default-true-default-default.workers.count c.in-Run-default-true-default-default.quiet
     c.in-Run-default-true-default-default.script.now (map (λ name. name.now) c.in-Run-default-true-default-default.files.items) in
     let does =
-    Does (c.args.pictures.now ≡ c.args.pictures.now) (g.P.Pictures.tried c.args.pictures.now)
-    (g.P.Pictures.tried c.args.pictures.now) in
+    Does (c.args.pictures.now ≡ c.args.pictures.now) (g.P.Pictures.done c.args.pictures.now)
+    (g.P.Pictures.done c.args.pictures.now) in
     answers_of c.covered_texts_break_nothing.ensures c.driven_texts_break_nothing.ensures
     c.fails_exactly_where_nothing_is_spelled.ensures.nowhere _ _ _ does _ request _ _
     _ (rw c.in-Run-default-true-default-default.is at c.in_ok-text.ensures)
@@ -64,8 +64,8 @@ pub returns-in_ok-tell_deadlock-in-Run-clause-answers : goal.returns-in_ok-tell_
 returns-in_ok-tell_deadlock-in-Run-clause-answers g c =
     let request = Run c.in-Run.workers.count c.in-Run.quiet c.in-Run.script.now (map (λ name. name.now) c.in-Run.files.items) in
     let does =
-    Does (c.args.pictures.now ≡ c.args.pictures.now) (g.P.Pictures.tried c.args.pictures.now)
-    (g.P.Pictures.tried c.args.pictures.now) in
+    Does (c.args.pictures.now ≡ c.args.pictures.now) (g.P.Pictures.done c.args.pictures.now)
+    (g.P.Pictures.done c.args.pictures.now) in
     answers_of c.covered_texts_break_nothing.ensures c.driven_texts_break_nothing.ensures
     c.fails_exactly_where_nothing_is_spelled.ensures.nowhere _ _ _ does _ request _ _
     _ (rw c.in-Run.is at c.in_ok-text.ensures)
@@ -78,8 +78,8 @@ returns-in-Replay-clause-answers g c =
     let request = Replay c.in-Replay.journal.now (map (λ name. name.now) c.in-Replay.files.items) in
     let said = rw c.as_slice-files-in-Replay.ensures.value at c.replay_files-said.ensures in
     let does =
-    Does (c.args.pictures.now ≡ c.args.pictures.now) (g.P.Pictures.tried c.args.pictures.now)
-    (g.P.Pictures.tried c.args.pictures.now) in
+    Does (c.args.pictures.now ≡ c.args.pictures.now) (g.P.Pictures.done c.args.pictures.now)
+    (g.P.Pictures.done c.args.pictures.now) in
     answers_of c.covered_texts_break_nothing.ensures c.driven_texts_break_nothing.ensures
     c.fails_exactly_where_nothing_is_spelled.ensures.nowhere _ _ _ does _ request _ _
     _ (rw c.in-Replay.is at c.in_ok-text.ensures) (c.replay_files-said.result, c.of_run-in-Replay.ensures, said.1) refl
@@ -94,14 +94,14 @@ returns-in_ok-before-in-Show-clause-answers g c =
     (map (λ name. name.now) c.in-Show.files.items) in
     let said = rw c.as_slice-files-in-Show.ensures.value at c.show_files-said.ensures.said in
     let does =
-    Does (c.show_files-said.new.pictures ≡ c.args.pictures.now) (g.P.Pictures.tried c.args.pictures.now)
-    (g.P.Pictures.tried c.show_files-said.new.pictures) in
+    Does (c.show_files-said.new.pictures ≡ c.args.pictures.now) (g.P.Pictures.done c.args.pictures.now)
+    (g.P.Pictures.done c.show_files-said.new.pictures) in
     answers_of c.covered_texts_break_nothing.ensures c.driven_texts_break_nothing.ensures
     c.fails_exactly_where_nothing_is_spelled.ensures.nowhere _ _ _ does _ request _ _
     _ (rw c.in-Show.is at c.in_ok-text.ensures) (c.show_files-said.result, c.of_run-in-Show.ensures, said.1)
-    (kept_shown (g.P.Pictures.written c.show_files-said.new.pictures) does c.in-Show.timeline c.in-Show.picture c.in-Show.journal.now
-    (map (λ name. name.now) c.in-Show.files.items) _ _ c.show_files-said.result _ c.of_run-in-Show.ensures c.show_files-said.ensures.drawn
-    c.show_files-said.ensures.untouched)
+    (kept_shown (g.P.Pictures.written c.show_files-said.new.pictures) does c.in-Show.timeline
+    (option_map (λ name. name.now) c.in-Show.picture) c.in-Show.journal.now (map (λ name. name.now) c.in-Show.files.items) said.0 _
+    c.show_files-said.result _ c.of_run-in-Show.ensures c.show_files-said.ensures.drawn)
     (those_after _ _ _ c.show_files-said.result _ _ c.of_run-in-Show.ensures c.report_on-in-Show.ensures.texts
     c.report_on-in-Show.ensures.journal said.2)
     c.report_on-in-Show.ensures.codes c.report_on-in-Show.ensures.reported
@@ -118,8 +118,8 @@ pub returns-in-Extract-clause-answers : goal.returns-in-Extract-clause-answers
 returns-in-Extract-clause-answers g c =
     let request = Extract c.in-Extract.map (map (λ name. name.now) c.in-Extract.files.items) in
     let does =
-    Does (c.args.pictures.now ≡ c.args.pictures.now) (g.P.Pictures.tried c.args.pictures.now)
-    (g.P.Pictures.tried c.args.pictures.now) in
+    Does (c.args.pictures.now ≡ c.args.pictures.now) (g.P.Pictures.done c.args.pictures.now)
+    (g.P.Pictures.done c.args.pictures.now) in
     answers_of c.covered_texts_break_nothing.ensures c.driven_texts_break_nothing.ensures
     c.fails_exactly_where_nothing_is_spelled.ensures.nowhere _ _ _ does _ request _ _ _
     (rw c.in-Extract.is at c.in_ok-text.ensures)
@@ -131,8 +131,8 @@ pub returns-in-Pages-clause-answers : goal.returns-in-Pages-clause-answers
 returns-in-Pages-clause-answers g c =
     let request = Pages (map (λ name. name.now) c.in-Pages.names.items) in
     let does =
-    Does (c.args.pictures.now ≡ c.args.pictures.now) (g.P.Pictures.tried c.args.pictures.now)
-    (g.P.Pictures.tried c.args.pictures.now) in
+    Does (c.args.pictures.now ≡ c.args.pictures.now) (g.P.Pictures.done c.args.pictures.now)
+    (g.P.Pictures.done c.args.pictures.now) in
     answers_of c.covered_texts_break_nothing.ensures c.driven_texts_break_nothing.ensures
     c.fails_exactly_where_nothing_is_spelled.ensures.nowhere _ _ _ does _ request _ _ _
     (rw c.in-Pages.is at c.in_ok-text.ensures) (
@@ -148,8 +148,8 @@ pub returns-in-Emit-clause-answers : goal.returns-in-Emit-clause-answers
 returns-in-Emit-clause-answers g c =
     let request = Emit c.in-Emit.part c.in-Emit.file.now (option_map (λ name. name.now) c.in-Emit.cert) in
     let does =
-    Does (c.args.pictures.now ≡ c.args.pictures.now) (g.P.Pictures.tried c.args.pictures.now)
-    (g.P.Pictures.tried c.args.pictures.now) in
+    Does (c.args.pictures.now ≡ c.args.pictures.now) (g.P.Pictures.done c.args.pictures.now)
+    (g.P.Pictures.done c.args.pictures.now) in
     answers_of c.covered_texts_break_nothing.ensures c.driven_texts_break_nothing.ensures
     c.fails_exactly_where_nothing_is_spelled.ensures.nowhere _ _ _ does _ request _ _ _
     (rw c.in-Emit.is at c.in_ok-text.ensures)
@@ -161,8 +161,8 @@ pub returns-in_ok-before-in-EmitInto-clause-answers : goal.returns-in_ok-before-
 returns-in_ok-before-in-EmitInto-clause-answers g c =
     let request = EmitInto c.in-EmitInto.folder.now c.in-EmitInto.is_forced c.in-EmitInto.file.now (option_map (λ name. name.now) c.in-EmitInto.cert) in
     let does =
-    Does (c.emit_files_into-said.new.pictures ≡ c.args.pictures.now) (g.P.Pictures.tried c.args.pictures.now)
-    (g.P.Pictures.tried c.emit_files_into-said.new.pictures) in
+    Does (c.emit_files_into-said.new.pictures ≡ c.args.pictures.now) (g.P.Pictures.done c.args.pictures.now)
+    (g.P.Pictures.done c.emit_files_into-said.new.pictures) in
     answers_of c.covered_texts_break_nothing.ensures c.driven_texts_break_nothing.ensures
     c.fails_exactly_where_nothing_is_spelled.ensures.nowhere _ _ _ does _ request _ _ _
     (rw c.in-EmitInto.is at c.in_ok-text.ensures)
@@ -180,8 +180,8 @@ returns-in_ok-before-in-EmitInto-clause-quiet g c =
 pub returns-in-Serve-clause-answers : goal.returns-in-Serve-clause-answers
 returns-in-Serve-clause-answers g c =
     let does =
-    Does (c.args.pictures.now ≡ c.args.pictures.now) (g.P.Pictures.tried c.args.pictures.now)
-    (g.P.Pictures.tried c.args.pictures.now) in
+    Does (c.args.pictures.now ≡ c.args.pictures.now) (g.P.Pictures.done c.args.pictures.now)
+    (g.P.Pictures.done c.args.pictures.now) in
     answers_of c.covered_texts_break_nothing.ensures c.driven_texts_break_nothing.ensures
     c.fails_exactly_where_nothing_is_spelled.ensures.nowhere _ _ _ does _ Serve _ c.unserved.result _
     (rw c.in-Serve.is at c.in_ok-text.ensures) c.unserved.ensures refl
@@ -219,8 +219,8 @@ pub returns-in-Compare-clause-answers : goal.returns-in-Compare-clause-answers
 returns-in-Compare-clause-answers g c =
     let request = Compare (map (λ name. name.now) c.in-Compare.files.items) in
     let does =
-    Does (c.args.pictures.now ≡ c.args.pictures.now) (g.P.Pictures.tried c.args.pictures.now)
-    (g.P.Pictures.tried c.args.pictures.now) in
+    Does (c.args.pictures.now ≡ c.args.pictures.now) (g.P.Pictures.done c.args.pictures.now)
+    (g.P.Pictures.done c.args.pictures.now) in
     answers_of c.covered_texts_break_nothing.ensures c.driven_texts_break_nothing.ensures
     c.fails_exactly_where_nothing_is_spelled.ensures.nowhere _ _ _ does _ request _ _ _
     (rw c.in-Compare.is at c.in_ok-text.ensures)

@@ -14,8 +14,8 @@ returns-clause-answered g c =
     let own = Ok (Formatted c.args.mode c.in_ok-found.found) in
     let written = g.P.Pictures.written c.format_files.new.pictures in
     let does =
-    Does (c.format_files.new.pictures ≡ c.args.pictures.now) (g.P.Pictures.tried c.args.pictures.now)
-    (g.P.Pictures.tried c.format_files.new.pictures) in
+    Does (c.format_files.new.pictures ≡ c.args.pictures.now) (g.P.Pictures.done c.args.pictures.now)
+    (g.P.Pictures.done c.format_files.new.pictures) in
     answered_without c.covered_texts_break_nothing.ensures c.driven_texts_break_nothing.ensures
     c.fails_exactly_where_nothing_is_spelled.ensures.nowhere shown _ written does request _ (of_text own) _
     (own, refl, (refl, c.in_ok-found.ensures.said))

@@ -14,7 +14,7 @@ returns g c =
     record {
       one = λ inputs before pictures past others shown showing words. printed_once checked analysed thinned replayed nowhere
           (g.I.Inputs.gives inputs) (g.P.Pictures.written pictures) (g.P.Pictures.written others)
-          (Does (pictures ≡ before) (g.P.Pictures.tried before) (g.P.Pictures.tried pictures))
-          (Does (others ≡ past) (g.P.Pictures.tried past) (g.P.Pictures.tried others)) shown showing (asked words);
+          (Does (pictures ≡ before) (g.P.Pictures.done before) (g.P.Pictures.done pictures))
+          (Does (others ≡ past) (g.P.Pictures.done past) (g.P.Pictures.done others)) shown showing (asked words);
       said = λ inputs. said_once checked analysed thinned replayed nowhere (g.I.Inputs.gives inputs);
     }

@@ -19,8 +19,8 @@ returns-in-Ok-clause-said g c =
 pub returns-in-Ok-clause-put : goal.returns-in-Ok-clause-put
 returns-in-Ok-clause-put g c =
     put_of (g.P.Pictures.written c.write_filter.new.pictures)
-    (Does (c.write_filter.new.pictures ≡ c.args.pictures.now) (g.P.Pictures.tried c.args.pictures.now)
-    (g.P.Pictures.tried c.write_filter.new.pictures)) c.args.folder.now c.args.text.now [] c.in_ok-graph.graph
+    (Does (c.write_filter.new.pictures ≡ c.args.pictures.now) (g.P.Pictures.done c.args.pictures.now)
+    (g.P.Pictures.done c.write_filter.new.pictures)) c.args.folder.now c.args.text.now [] c.in_ok-graph.graph
     (record { filter = c.in_ok-tree.tree.filter; spelled = c.in_ok-tree.ensures.spelled; lowered = c.in_ok-graph.ensures })
     c.in_ok-write_filter-in-Ok.field-0
     c.in_ok-write_filter-in-Ok.ensures.put

@@ -1,6 +1,6 @@
 use Rattle.std.proofs.Common.{[], Bor, arith, get_or, refl}
 use Rattle.std.proofs.lemmas.List.Elements.{All-nil}
-use Rattle.flt_commands_texts.proofs.Formatting.{done_more, outcome_more, still_more}
+use Rattle.flt_commands_texts.proofs.Formatting.{does_for, done_more, outcome_more}
 use Rattle.flt_commands_texts.specs.Format as spec
 use Rattle.flt_files.specs.Inputs.{Text}
 use Rattle.flt_commands_texts.proofs.format.file_outcomes.Goals as goal
@@ -9,7 +9,7 @@ pub loop-number-init : goal.loop-number-init
 loop-number-init g c = record {
   are = rw c.new-files.ensures.items spec.none;
   done = rw c.new-files.ensures.items (All-nil _);
-  still = λ none. refl;
+  did = rw c.new-files.ensures.items refl;
 }
 
 pub loop-number-preserved : goal.loop-number-preserved
@@ -25,6 +25,6 @@ loop-number-preserved g c =
       done = done_more (g.P.Pictures.written c.loop-number.pictures) (g.P.Pictures.written c.file_outcome.new.pictures)
           c.in_ok-file.ensures.kept c.args.mode c.loop-number.files.items _ c.in_ok-file.file c.loop-number.invariant.done
           c.in_ok-file.ensures.done c.in_ok-push.ensures.items;
-      still = still_more c.args.mode c.loop-number.files.items _ c.in_ok-file.file _ _ _ c.loop-number.invariant.still
-          c.in_ok-file.ensures.still c.in_ok-push.ensures.items;
+      did = does_for g.P.Pictures.done _ _ _ c.args.mode c.loop-number.files.items _ c.in_ok-file.file c.loop-number.invariant.did
+          c.in_ok-file.ensures.did c.in_ok-push.ensures.items;
     }

@@ -1,7 +1,7 @@
-use Rattle.std.proofs.Common.{◌≡◌, false, map, take}
-use Rattle.std.specs.List.{All, list_any}
+use Rattle.std.proofs.Common.{◌≡◌, map, take}
+use Rattle.std.specs.List.{All}
+use Rattle.flt_files.specs.Attempts.{Does}
 use Rattle.flt_commands_texts.specs.Format as spec
-use Rattle.flt_commands_texts.specs.declared.outcomes.FileOutcome.{FileOutcome}
 use Rattle.flt_commands_texts.proofs.format.file_outcomes.Given as goal
 
 abbrev pub invariant-loop-number : goal.invariant-loop-number
@@ -9,5 +9,6 @@ invariant-loop-number g l = record {
   are : spec.AreOutcomes l.mode (map (λ name. name.now) (take l.number l.names)) (map (λ text. text.items) (take l.number l.texts))
       l.files.items;
   done : All (spec.IsFileDone (g.P.Pictures.written l.pictures) l.mode) l.files.items;
-  still : list_any (λ (file : FileOutcome). spec.is_wanted l.mode file.outcome) l.files.items ≡ false → l.pictures ≡ l.fn.pictures;
+  did : Does (l.pictures ≡ l.fn.pictures) (g.P.Pictures.done l.fn.pictures) (g.P.Pictures.done l.pictures)
+      (spec.attempts_in l.mode l.files.items);
 }

@@ -16,7 +16,7 @@ returns-clause-said g c =
 pub returns-clause-kept : goal.returns-clause-kept
 returns-clause-kept g c =
     kept_formatted (g.P.Pictures.written c.file_outcomes.new.pictures)
-    (Does (c.file_outcomes.new.pictures ≡ c.args.pictures.now) (g.P.Pictures.tried c.args.pictures.now)
-    (g.P.Pictures.tried c.file_outcomes.new.pictures))
+    (Does (c.file_outcomes.new.pictures ≡ c.args.pictures.now) (g.P.Pictures.done c.args.pictures.now)
+    (g.P.Pictures.done c.file_outcomes.new.pictures))
     c.args.mode (record { files = c.in_ok-files.files; unread = c.in_ok-read.read.unread })
-    c.in_ok-files.ensures.done c.in_ok-files.ensures.still
+    c.in_ok-files.ensures.done c.in_ok-files.ensures.did

@@ -4,7 +4,8 @@ use Rattle.flt_files.proofs.named.SystemFilesInputs.read.Goals as goal
 
 pub returns-then-eq : goal.returns-then-eq
 returns-then-eq g c =
-    let opened : g.S.System.holds c.args.self.now.system.now c.args.name.now (g.S.Input.Reader.left c.input.result) = search rules in
+    let opened : g.S.System.holds (g.S.System.disk c.args.self.now.system.now) c.args.name.now (g.S.Input.Reader.left c.input.result) =
+    search rules in
     given_of _ _ _ _ c.args.name.now _ c.input.ensures.failing opened (λ v. v.items) c.read_opened.result c.read_opened.ensures.all
     c.read_opened.ensures.none
 
