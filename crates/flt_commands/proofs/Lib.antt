@@ -1,4 +1,5 @@
 pub mod Covered
+pub mod Expanding
 pub mod ExplainReports
 pub mod LayoutReports
 pub mod OneAnalysis

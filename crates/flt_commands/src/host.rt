@@ -1,7 +1,8 @@
 //! The program on its system: its streams, and its own words.
 
-ghost use Rattle.std.specs.Prelude.{◌≡◌, [], IfNone, IfSome, map, string_bytes};
+ghost use Rattle.std.specs.Prelude.{◌≡◌, [], IfNone, IfOk, IfSome, map, string_bytes};
 ghost use Rattle.flt_commands.specs.Commands.{AnswersSomehow};
+ghost use Rattle.flt_commands.specs.Folders.{AreExpanded};
 ghost use Rattle.flt_commands_explain.specs.Served.{ServesSomehow};
 ghost use Rattle.flt_files.specs.Deeds.{deeds_in};
 ghost use Rattle.flt_files.specs.System.{given_by_host, written_by_host};
@@ -114,7 +115,10 @@ impl<W: Write + Drop> Write for CheckedWriter<W> {
 
 /// The words of the command line, without the program's own name, with the texts of each folder that `explain` is given in its place; none
 /// if one of them isn't UTF-8.
-fn arguments(rt: &HostRuntime) -> Result<Option<CommandLine>, AllocError> {
+fn arguments(rt: &HostRuntime) -> Result<Option<CommandLine>, AllocError>
+    ensures { IfOk result (λ found. IfSome found (λ line.
+        AreExpanded (map string_bytes line.given.items) (map string_bytes line.words.items))) }
+{
     let given = match env::args(rt) {
         Ok(given) => given,
         Err(fault) if fault.kind() == io::ErrorKind::InvalidData => return Ok(None),
@@ -141,7 +145,9 @@ fn say_unwritten(rt: &HostRuntime, out: &CheckedWriter<Stdout>) {
 }
 
 /// The words of the command line; none if one of them isn't UTF-8, or if memory ran out, which the standard error then says.
-fn words_of(rt: &HostRuntime) -> Option<CommandLine> {
+fn words_of(rt: &HostRuntime) -> Option<CommandLine>
+    ensures { IfSome result (λ line. AreExpanded (map string_bytes line.given.items) (map string_bytes line.words.items)) }
+{
     match arguments(rt) {
         Ok(Some(line)) => Some(line),
         Ok(None) => {
@@ -158,7 +164,9 @@ fn words_of(rt: &HostRuntime) -> Option<CommandLine> {
 /// The program's own words, and the report on them.
 #[derive(Drop)]
 pub struct Execution {
-    /// The words, without the program's own name, with the texts of each folder that `explain` is given in its place.
+    /// The words of the command line, without the program's own name.
+    pub given: Vec<String>,
+    /// The same with the texts of each folder that `explain` is given in its place.
     pub words: Vec<String>,
     /// The report on them; none if a word isn't UTF-8, memory ran out or a write failed, and for a server.
     pub report: Option<Report>,
@@ -302,21 +310,28 @@ pub fn run<R: Threads + Wait + Sync>(rt: &HostRuntime, threads: &R) -> Execution
     ensures apart { IfSome result.report (λ _. ¬ (AskToServe (map string_bytes result.words.items))) }
     ensures asked { IfSome result.served (λ _. AskToServe (map string_bytes result.words.items)) }
     ensures untouched { IfSome result.served (λ _. deeds_in result.deeds ≡ []) }
+    ensures expanded { AreExpanded (map string_bytes result.given.items) (map string_bytes result.words.items) }
 {
     let Some(line) = words_of(rt) else {
         return Execution {
+            given: Vec::new(rt.alloc()),
             words: Vec::new(rt.alloc()),
             report: None,
             served: None,
             deeds: Deeds::new(rt.alloc()),
         };
     };
-    let CommandLine { words, barred } = line;
+    let CommandLine {
+        given,
+        words,
+        barred,
+    } = line;
     match ask_to_serve(rt.alloc(), words.as_slice()) {
         Ok(true) => Execution {
             report: None,
             served: serve_streams(rt),
             deeds: Deeds::new(rt.alloc()),
+            given,
             words,
         },
         Ok(false) => {
@@ -325,6 +340,7 @@ pub fn run<R: Threads + Wait + Sync>(rt: &HostRuntime, threads: &R) -> Execution
                 report,
                 served: None,
                 deeds,
+                given,
                 words,
             }
         }
@@ -334,6 +350,7 @@ pub fn run<R: Threads + Wait + Sync>(rt: &HostRuntime, threads: &R) -> Execution
                 report: None,
                 served: None,
                 deeds: Deeds::new(rt.alloc()),
+                given,
                 words,
             }
         }

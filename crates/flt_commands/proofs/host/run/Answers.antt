@@ -1,4 +1,5 @@
 use Rattle.std.proofs.Common.{◌↔◌, IfSome, IsTrue, None, Option, Some, refl, true}
+use Rattle.flt_commands.specs.Folders.{none}
 use Rattle.flt_commands.proofs.host.run.Goals as goal
 
 -- a server ends only where the words ask for one
@@ -10,3 +11,6 @@ pub returns-in-Ok-true-clause-asked : goal.returns-in-Ok-true-clause-asked
 returns-in-Ok-true-clause-asked g c =
     asked_for _ _
     (rw c.as_slice.ensures.value at (rw c.in-Ok-true.field-0-test at (rw c.in-Ok-true.is at c.ask_to_serve.ensures)))
+
+pub returns-in_default-clause-expanded : goal.returns-in_default-clause-expanded
+returns-in_default-clause-expanded g c = rw (c.new.ensures.items, c.new-in_default.ensures.items) none
