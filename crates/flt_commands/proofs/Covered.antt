@@ -17,10 +17,10 @@ use Rattle.flt_stack_crew.specs.declared.running.Ran.{Ran}
 use Rattle.flt_explain.specs.declared.finding.Finding.{Finding}
 use Rattle.flt_explain_forms.specs.Lines.{AreLinesFrom}
 use Rattle.flt_explain_forms.specs.RunMember.{no_member, own_member}
-use Rattle.flt_explain_forms.specs.declared.drifted.DriftedFile.{DriftedFile}
-use Rattle.flt_explain_forms.specs.declared.run.FindingRun.{FindingRun}
-use Rattle.flt_explain_forms.specs.Sarif.{AreResults, IsSarif}
-use Rattle.flt_explain_forms.specs.Warned.{status_of as status_of_warned}
+use Rattle.flt_explain_parts.specs.declared.drifted.DriftedFile.{DriftedFile}
+use Rattle.flt_explain_flows.specs.declared.finding_run.FindingRun.{FindingRun}
+use Rattle.flt_explain_sarif.specs.Sarif.{AreResults, IsSarif}
+use Rattle.flt_explain_parts.specs.Warned.{status_of as status_of_warned}
 use Rattle.flt_explain_forms.specs.declared.as_lines.Style.{Style}
 use Rattle.flt_files.specs.declared.unread.UnreadFile.{UnreadFile}
 use Rattle.flt_explain_forms.specs.declared.as_lines.Style.TheVariants.{Object, Sentence}

@@ -5,7 +5,7 @@ use Rattle.std.proofs.KnownBytes.{Appends-nil}
 use Rattle.std.specs.Io.KnownBytes.{Appends}
 use Rattle.std.specs.List.{AllZip}
 use Rattle.flt_explain_texts.specs.declared.sources.Source.{Source}
-use Rattle.flt_explain_forms.specs.declared.drifted.DriftedFile.{DriftedFile}
+use Rattle.flt_explain_parts.specs.declared.drifted.DriftedFile.{DriftedFile}
 use Rattle.flt_files.specs.declared.unread.UnreadFile.{UnreadFile}
 use Rattle.flt_joined.specs.Made.{AreJoined}
 use Rattle.flt_joined.specs.Texts.{AreNamed, Given, Refused, given_of, givens, refused_at}

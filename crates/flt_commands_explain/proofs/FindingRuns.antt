@@ -5,7 +5,7 @@ use Rattle.std.proofs.Math.Path.{subst}
 use Rattle.std.proofs.Math.Seq.{take-suc}
 use Rattle.std.proofs.lemmas.Grind.{common_steps}
 use Rattle.flt_explain_texts.specs.declared.sources.Source.{Source}
-use Rattle.flt_explain_forms.specs.declared.run.FindingRun.{FindingRun}
+use Rattle.flt_explain_flows.specs.declared.finding_run.FindingRun.{FindingRun}
 use Rattle.flt_explain_flows.specs.Flows.{IsFlow}
 use Rattle.flt_explain_flows.specs.Running.{run_of}
 use Rattle.flt_explain_flows.specs.declared.flows.Flow.{Flow}

@@ -9,8 +9,8 @@ use Rattle.flt_c_drift.specs.declared.drift.DriftKind.{DriftKind}
 use Rattle.flt_c_drift.specs.Line.{drift_lines}
 use Rattle.flt_c_drift.specs.Report.{drift_reports}
 use Rattle.flt_c_drift.specs.DriftWords.{code}
-use Rattle.flt_explain_forms.specs.Drifted.{drift_objects}
-use Rattle.flt_explain_forms.specs.declared.drifted.DriftedFile.{DriftedFile}
+use Rattle.flt_explain_forms.specs.DriftLines.{drift_objects}
+use Rattle.flt_explain_parts.specs.declared.drifted.DriftedFile.{DriftedFile}
 use Rattle.flt_joined.specs.Texts.{Given}
 use Rattle.flt_words.specs.Shown.{visible}
 use Rattle.flt_words.specs.declared.request.Form.{Form}

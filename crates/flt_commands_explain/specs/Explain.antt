@@ -6,11 +6,11 @@ use Rattle.std.specs.List.{AllZip, list_all}
 use Rattle.std.specs.Prelude.{◌≡◌, ℕ, ◌+◌, List, [], ◌∷◌, ◌++◌, Bool, map, true, false, Option}
 use Rattle.std.specs.Prelude.{Some, None, Result, Ok, Err, length, max, take}
 use Rattle.flt_explain_pages.specs.Pages.{has_page, title}
-use Rattle.flt_explain_forms.specs.Drifted.{drift_status}
+use Rattle.flt_explain_parts.specs.Drifted.{drift_status}
 use Rattle.flt_explain_forms.specs.Lines.{AreLines}
-use Rattle.flt_explain_forms.specs.Sarif.{IsSarif}
-use Rattle.flt_explain_forms.specs.declared.drifted.DriftedFile.{DriftedFile}
-use Rattle.flt_explain_forms.specs.declared.run.FindingRun.{FindingRun}
+use Rattle.flt_explain_sarif.specs.Sarif.{IsSarif}
+use Rattle.flt_explain_parts.specs.declared.drifted.DriftedFile.{DriftedFile}
+use Rattle.flt_explain_flows.specs.declared.finding_run.FindingRun.{FindingRun}
 use Rattle.flt_files.specs.declared.unread.UnreadFile.{UnreadFile}
 use Rattle.flt_explain_forms.specs.declared.as_lines.Style.TheVariants.{Object, Sentence}
 use Rattle.flt_joined.specs.Texts.{Given}

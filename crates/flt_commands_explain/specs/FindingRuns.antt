@@ -9,7 +9,7 @@ use Rattle.flt_explain_flows.specs.Flows.{IsFlow}
 use Rattle.flt_explain_flows.specs.Running.{run_of}
 use Rattle.flt_explain_flows.specs.declared.flows.Flow.{Flow}
 use Rattle.flt_explain_texts.specs.declared.sources.Source.{Source}
-use Rattle.flt_explain_forms.specs.declared.run.FindingRun.{FindingRun}
+use Rattle.flt_explain_flows.specs.declared.finding_run.FindingRun.{FindingRun}
 use Rattle.flt_model.specs.Program.{by_altitude, filters_of}
 use Rattle.flt_explain_outcomes.specs.Noted.{own_of, schedule_of}
 use Rattle.flt_explain_outcomes.specs.Noted.{own_files}

@@ -6,7 +6,7 @@ use Rattle.json.specs.Json.{string}
 use Rattle.json.specs.Print.{print}
 use Rattle.json.specs.Tree.{json_tokens}
 use Rattle.flt_c.specs.Names.{is_c_file}
-use Rattle.flt_explain_forms.specs.declared.drifted.DriftedFile.{DriftedFile}
+use Rattle.flt_explain_parts.specs.declared.drifted.DriftedFile.{DriftedFile}
 use Rattle.flt_files.specs.declared.unread.UnreadFile.{UnreadFile}
 use Rattle.flt_server_frames.specs.Handling.{IsServed, IsServedSoFar, Reply}
 use Rattle.flt_explain_runs.specs.Whole.{IsPrint, Look}

@@ -7,7 +7,7 @@ ghost use Rattle.flt_commands_explain.specs.Explain as spec;
 use crate::drifts::tell_drifts;
 use crate::explain::{ExplainOptions, told};
 use crate::fault::CommandFault;
-use flt_explain_forms::{DriftedFile, drift_status};
+use flt_explain_parts::{DriftedFile, drift_status};
 use flt_explain_runs::{ExplainOutput, SearchWatch};
 use flt_explain_texts::{Printout, Source};
 use flt_files::UnreadFile;

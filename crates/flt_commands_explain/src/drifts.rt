@@ -5,7 +5,8 @@ ghost use Rattle.flt_commands_explain.specs.Drifts as spec;
 ghost use Rattle.flt_joined.specs.Texts.{given_of, givens};
 
 use flt_c_drift::{Drift, DriftKind, code, drift_lines, drifts, report_drifts};
-use flt_explain_forms::{DriftedFile, drift_objects};
+use flt_explain_forms::drift_objects;
+use flt_explain_parts::DriftedFile;
 use flt_joined::GivenFile;
 use flt_words::{Form, visible};
 use sqlite_items::Items;

@@ -3,8 +3,7 @@
 ghost use Rattle.std.specs.Prelude.{◌≡◌, IfOk, get_or};
 ghost use Rattle.flt_commands_explain.specs.FindingRuns as spec;
 
-use flt_explain_flows::Flow;
-use flt_explain_forms::FindingRun;
+use flt_explain_flows::{FindingRun, Flow};
 use flt_explain_outcomes::{JointOutcome, Note, Schedule, own_files, own_trees, schedule_of};
 use flt_explain_texts::Source;
 use flt_places::Files;

@@ -1,3 +1,4 @@
+pub mod FindingRun
 pub mod Flows
 pub mod Naming
 pub mod Running

@@ -5,7 +5,7 @@ use Rattle.flt_explain_texts.specs.declared.judged.TextJudgement.TheVariants.{Un
 use Rattle.flt_explain.specs.declared.finding.Finding.{Finding}
 use Rattle.flt_explain_warning_details.specs.declared.detail.WarningDetail.{WarningDetail}
 use Rattle.json.specs.Token.{Token, begin_object, end_object}
-use Rattle.flt_explain_forms.specs.Members.{line_of}
+use Rattle.flt_explain_parts.specs.Members.{line_of}
 use Rattle.flt_explain_forms.specs.Preface.{preface}
 use Rattle.flt_explain_forms.specs.declared.as_lines.Style.{Style}
 use Rattle.flt_explain_forms.specs.declared.as_lines.Style.TheVariants.{Object, Sentence}

@@ -12,9 +12,10 @@ use Rattle.flt_places.specs.Files.{file_at, file_name}
 use Rattle.flt_places.specs.declared.files.Files.{Files}
 use Rattle.flt_places.specs.declared.places.Region.{Region}
 use Rattle.flt_tree.specs.Names.{Text}
-use Rattle.flt_explain_forms.specs.Counted.{counted}
-use Rattle.flt_explain_forms.specs.Members.{filled_member, line_of, marks_members, string_member, text_member, number_member, null_member}
-use Rattle.flt_explain_forms.specs.Points.{region_at}
+use Rattle.flt_explain_parts.specs.Counted.{counted}
+use Rattle.flt_explain_parts.specs.Members.{filled_member, line_of, string_member, text_member, number_member, null_member}
+use Rattle.flt_explain_parts.specs.Points.{region_at}
+use Rattle.flt_explain_forms.specs.Places.{marks_members}
 use Rattle.flt_explain_forms.specs.Preface.{preface}
 use Rattle.flt_explain_forms.specs.Steps.{kind_name, like_member, maker_member, steps, steps_member}
 

@@ -15,16 +15,16 @@ use Rattle.flt_tree.specs.Names.{Text}
 use Rattle.flt_tree.specs.declared.filter.Filter.{Filter}
 use Rattle.flt_explain_warning_details.specs.declared.detail.WarningDetail.{WarningDetail}
 use Rattle.flt_explain_warning_details.specs.declared.options.WarningOptions.{WarningOptions}
+use Rattle.flt_explain_parts.specs.Warned.{AreWarned, status_of}
+use Rattle.flt_explain_flows.specs.declared.finding_run.FindingRun.{FindingRun}
 use Rattle.flt_explain_forms.specs.Clean.{clean_lines}
 use Rattle.flt_explain_forms.specs.Fault.{IsFaultLine}
 use Rattle.flt_explain_forms.specs.Finding.{finding_lines}
 use Rattle.flt_explain_forms.specs.RunMember.{run_members}
 use Rattle.flt_explain_forms.specs.Short as short
-use Rattle.flt_explain_forms.specs.Warned.{AreWarned, status_of}
 use Rattle.flt_explain_forms.specs.Warning.{warning_line}
 use Rattle.flt_explain_forms.specs.declared.as_lines.Style.{Style}
 use Rattle.flt_explain_forms.specs.declared.as_lines.Style.TheVariants.{Object, Sentence}
-use Rattle.flt_explain_forms.specs.declared.run.FindingRun.{FindingRun}
 
 -- one JSON object for each of these findings, in their order, with its run
 pub record AreFindingLines (files : Files) (run : ℕ → List Token) (text : Text) (filter : Filter) (graph : Graph) (found : List Finding)

@@ -1,7 +1,7 @@
 -- What each object of the form `lines` begins with. This project's own format.
 use Rattle.std.specs.Prelude.{ℕ, List, ◌++◌, codes}
 use Rattle.json.specs.Token.{Token}
-use Rattle.flt_explain_forms.specs.Members.{number_member, string_member}
+use Rattle.flt_explain_parts.specs.Members.{number_member, string_member}
 
 -- the number of the form
 abbrev pub version : ℕ

@@ -8,11 +8,12 @@ use Rattle.flt_explain_flows.specs.declared.flows.FlowActivation.{FlowActivation
 use Rattle.flt_explain_flows.specs.declared.flows.FlowStep.{FlowStep}
 use Rattle.flt_places.specs.Places.{region_of}
 use Rattle.flt_tree.specs.declared.filter.Span.{Span}
-use Rattle.flt_explain_forms.specs.Members.{array_member, null_member, number_member, object_member, region_members, string_member}
-use Rattle.flt_explain_forms.specs.Members.{text_member}
-use Rattle.flt_explain_forms.specs.Run.{at, run_of, source_of}
+use Rattle.flt_explain_parts.specs.Members.{array_member, null_member, number_member, object_member, string_member}
+use Rattle.flt_explain_parts.specs.Members.{text_member}
+use Rattle.flt_explain_flows.specs.FindingRun.{at, run_of, source_of}
+use Rattle.flt_explain_flows.specs.declared.finding_run.FindingRun.{FindingRun}
+use Rattle.flt_explain_forms.specs.Places.{region_members}
 use Rattle.flt_model.specs.Verdicts.{violation_name}
-use Rattle.flt_explain_forms.specs.declared.run.FindingRun.{FindingRun}
 use Rattle.flt_explain_forms.specs.declared.run_member.OwnRun.{OwnRun}
 use Rattle.flt_explain_forms.specs.declared.run_member.TextLines.{TextLines}
 use Rattle.flt_explain_forms.specs.declared.run_member.TextRuns.{TextRuns}

@@ -13,6 +13,7 @@ use Rattle.flt_syntax.specs.declared.fault.SyntaxFault.{SyntaxFault}
 use Rattle.flt_tree.specs.declared.filter.Position.{Position}
 use Rattle.flt_explain_warnings.specs.Kinds.{kind_name}
 use Rattle.flt_explain_warning_details.specs.declared.detail.WarningDetail.{WarningDetail}
+use Rattle.flt_explain_parts.specs.Help.{place_of}
 
 -- words behind a head, and a line feed
 abbrev pub sentence : List ℕ → List ℕ → List ℕ
@@ -49,10 +50,6 @@ warning_line_by (Some reason) files d = []
 
 abbrev pub warning_line : Files → WarningDetail → List ℕ
 warning_line files d = warning_line_by d.reason files d
-
--- where a text is refused
-abbrev pub place_of : SyntaxFault → Position
-place_of f = record { line = f.line; column = f.column }
 
 -- the line of a fault
 abbrev pub fault_line : Files → SyntaxFault → List ℕ → List ℕ

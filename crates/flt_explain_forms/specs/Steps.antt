@@ -1,7 +1,8 @@
 -- Steps of paths, as JSON.
 use Rattle.std.specs.Prelude.{ℕ, List, [], ◌∷◌, ◌++◌, Bool, Option, Some, None, codes, flat_map, if◌then◌else◌}
 use Rattle.json.specs.Token.{Token, begin_object, end_object, begin_array, end_array, key}
-use Rattle.flt_explain_forms.specs.Members.{filled_member, marks_members, region_members, string_member, number_member, null_member}
+use Rattle.flt_explain_parts.specs.Members.{filled_member, string_member, number_member, null_member}
+use Rattle.flt_explain_forms.specs.Places.{marks_members, region_members}
 use Rattle.flt_explain_details.specs.declared.study.Maker.{Maker}
 use Rattle.flt_explain_details.specs.declared.study.Stage.{Stage}
 use Rattle.flt_explain_details.specs.declared.study.WayKind.{WayKind}

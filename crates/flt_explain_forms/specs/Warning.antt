@@ -7,13 +7,10 @@ use Rattle.flt_explain_warnings.specs.Kinds.{kind_name}
 use Rattle.flt_explain_warnings.specs.declared.warning.Site.{Site}
 use Rattle.flt_explain_warning_details.specs.declared.detail.RelatedPlace.{RelatedPlace}
 use Rattle.flt_explain_warning_details.specs.declared.detail.WarningDetail.{WarningDetail}
-use Rattle.flt_explain_forms.specs.Members.{array_member, filled_member, line_of, marks_members, null_member}
-use Rattle.flt_explain_forms.specs.Members.{number_member, string_member, text_member}
+use Rattle.flt_explain_parts.specs.Warned.{numbers}
+use Rattle.flt_explain_parts.specs.Members.{array_member, filled_member, line_of, null_member, string_member, text_member}
+use Rattle.flt_explain_forms.specs.Places.{marks_members}
 use Rattle.flt_explain_forms.specs.Preface.{preface}
-
--- the numbers of a callback and of a point, from 0
-abbrev pub numbers : Site → List Token
-numbers s = number_member (codes "callback") s.callback ++ number_member (codes "point") s.point
 
 abbrev pub no_site : List Token
 no_site = null_member (codes "callback") ++ null_member (codes "point")

@@ -1,26 +1,26 @@
 //! The findings in texts, line by line.
 
-ghost use Rattle.std.specs.Prelude.{◌≡◌, ◌++◌, [], IfOk, List, ℕ, max};
-ghost use Rattle.flt_explain_forms.specs.Fault.{IsFaultLine, fault, help_of as help_with};
-ghost use Rattle.flt_explain_forms.specs.Finding as of_finding;
+ghost use Rattle.std.specs.Prelude.{◌≡◌, ◌++◌, [], IfOk, List, ℕ};
+ghost use Rattle.flt_explain_forms.specs.Fault.{IsFaultLine, fault};
 ghost use Rattle.flt_explain_forms.specs.Lines as spec;
-ghost use Rattle.flt_explain_forms.specs.Members.{line_of};
 ghost use Rattle.flt_explain_forms.specs.RunMember.{members_in, no_member, own_member};
 ghost use Rattle.flt_explain_hints.specs.Telling.{title_of};
+ghost use Rattle.flt_explain_parts.specs.Help.{help_of as help_with};
+ghost use Rattle.flt_explain_parts.specs.Members.{line_of};
 ghost use Rattle.flt_explain_texts.specs.Reports.{IsJudged};
 ghost use Rattle.flt_syntax.specs.TextFails.{Fails};
 
 use crate::clean::put_clean_lines;
-use crate::fault::{help_of, open_line, put_fault_line};
+use crate::fault::put_fault_line;
 use crate::finding::put_lines;
-use crate::run::FindingRun;
 use crate::run_member::{TextRuns, texts_in};
 use crate::short::{put_short_fault, put_short_lines, put_short_warnings};
-use crate::warned::{status_of, warned_of};
 use crate::warning::put_warnings;
 use flt_explain::Finding;
 use flt_explain_details::details;
+use flt_explain_flows::FindingRun;
 use flt_explain_hints::{Trouble, describe, tell};
+use flt_explain_parts::{greater, help_of, open_line, status_of, warned_of};
 use flt_explain_texts::{Printout, Source, TextJudgement, judge};
 use flt_explain_warning_details::{WarningDetail, WarningOptions};
 use flt_graph::Graph;
@@ -194,12 +194,6 @@ fn put_source(
 {
     let judged = judge(alloc, source.text)?;
     put_judged_source(alloc, out, style, options, runs, number, source, &judged)
-}
-
-pub(crate) fn greater(a: u8, b: u8) -> u8
-    ensures { result ≡ max a b }
-{
-    if a < b { b } else { a }
 }
 
 /// Adds the lines of several texts to the output; returns the greatest status, too.

@@ -2,13 +2,13 @@
 
 ghost use Rattle.std.specs.Prelude.{◌≡◌, ◌++◌, IfOk};
 ghost use Rattle.flt_explain_forms.specs.Clean as spec;
-ghost use Rattle.flt_explain_forms.specs.Members.{Adds, line_of};
 ghost use Rattle.flt_explain_forms.specs.declared.as_lines.Style.TheVariants.{Object};
+ghost use Rattle.flt_explain_parts.specs.Members.{Adds, line_of};
 
 use crate::as_lines::Style;
-use crate::members::{close_object, open_object};
 use crate::preface::put_preface;
 use flt_explain::Finding;
+use flt_explain_parts::{close_object, open_object};
 use flt_explain_texts::TextJudgement;
 use flt_explain_warning_details::WarningDetail;
 use json::Writer;

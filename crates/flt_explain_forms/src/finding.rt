@@ -2,22 +2,22 @@
 
 ghost use Rattle.std.specs.Prelude.{◌≡◌, ◌++◌, codes, IfOk};
 ghost use Rattle.flt_explain_forms.specs.Finding as spec;
-ghost use Rattle.flt_explain_forms.specs.Members.{Adds, string_member};
-ghost use Rattle.flt_explain_forms.specs.Points.{regions};
 ghost use Rattle.flt_explain_forms.specs.RunMember.{member_of, members_in};
+ghost use Rattle.flt_explain_parts.specs.Members.{Adds, string_member};
+ghost use Rattle.flt_explain_parts.specs.Points.{regions};
 ghost use Rattle.flt_rules.specs.Rule.{rule_name, text as rule_text};
 
-use crate::members::{
-    close_object, open_object, put_filled, put_key, put_marks, put_null, put_number, put_string,
-    put_text,
-};
-use crate::points::Points;
+use crate::places::put_marks;
 use crate::preface::put_preface;
 use crate::run_member::{OwnRun, TextRuns, put_run_member};
 use crate::steps::{put_kind, put_like, put_maker_member, put_steps, put_steps_member};
 use flt_explain::Finding;
 use flt_explain_advice::Words;
 use flt_explain_details::{Detail, Route};
+use flt_explain_parts::{
+    Points, close_object, open_object, put_filled, put_key, put_null, put_number, put_string,
+    put_text,
+};
 use flt_graph::Graph;
 use flt_places::{Files, Lines};
 use flt_rules::{Rule, text};

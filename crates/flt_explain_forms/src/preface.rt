@@ -1,9 +1,9 @@
 //! The first members of each object of the form `lines`.
 
-ghost use Rattle.flt_explain_forms.specs.Members.{Adds};
 ghost use Rattle.flt_explain_forms.specs.Preface as spec;
+ghost use Rattle.flt_explain_parts.specs.Members.{Adds};
 
-use crate::members::{put_number, put_string};
+use flt_explain_parts::{put_number, put_string};
 use json::Writer;
 use std::alloc::AllocError;
 

@@ -1,16 +1,19 @@
 //! Runs that break something because of findings, as JSON.
 
 ghost use Rattle.std.specs.Prelude.{◌≡◌, IfOk, Some, codes, flat_map, slice_get};
-ghost use Rattle.flt_explain_forms.specs.Members.{Adds, object_member, region_members};
-ghost use Rattle.flt_explain_forms.specs.Run.{at, source_of as run_source};
+ghost use Rattle.flt_explain_flows.specs.FindingRun.{at, source_of as run_source};
+ghost use Rattle.flt_explain_forms.specs.Places.{region_members};
 ghost use Rattle.flt_explain_forms.specs.RunMember as spec;
+ghost use Rattle.flt_explain_parts.specs.Members.{Adds, object_member};
 
-use crate::members::{
-    close_array, close_object, open_array, open_object, put_items, put_key, put_null, put_number,
-    put_region_members, put_string,
+use crate::places::put_region_members;
+use flt_explain_flows::{
+    FindingRun, FlowActivation, FlowStep, run_of, source_of as source_of_activation,
 };
-use crate::run::{FindingRun, run_of, source_of as source_of_activation};
-use flt_explain_flows::{FlowActivation, FlowStep};
+use flt_explain_parts::{
+    close_array, close_object, open_array, open_object, put_items, put_key, put_null, put_number,
+    put_string,
+};
 use flt_explain_texts::Source;
 use flt_places::{Files, Lines, Region};
 use flt_tree::Span;

@@ -8,6 +8,7 @@ ghost use Rattle.flt_syntax.specs.TextFails.{Fails};
 use flt_explain::Finding;
 use flt_explain_details::{Detail, details};
 use flt_explain_hints::{describe, tell};
+use flt_explain_parts::place_of;
 use flt_explain_texts::{Source, fault_name};
 use flt_explain_warning_details::WarningDetail;
 use flt_graph::Graph;
@@ -181,16 +182,6 @@ pub(crate) fn put_short_warnings(
         out = put_warning(alloc, out, files, detail)?;
     }
     Ok(out)
-}
-
-/// The place at which a text is refused.
-pub(crate) fn place_of(fault: SyntaxFault) -> Position
-    ensures { result ≡ spec.place_of fault }
-{
-    Position {
-        line: fault.line,
-        column: fault.column,
-    }
 }
 
 /// Adds the line of a fault to the output.

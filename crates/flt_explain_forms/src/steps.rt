@@ -1,16 +1,17 @@
 //! Steps of paths, as JSON.
 
 ghost use Rattle.std.specs.Prelude.{◌≡◌, codes};
-ghost use Rattle.flt_explain_forms.specs.Members.{Adds, region_members, string_member};
-ghost use Rattle.flt_explain_forms.specs.Points.{regions};
+ghost use Rattle.flt_explain_forms.specs.Places.{region_members};
 ghost use Rattle.flt_explain_forms.specs.Steps as spec;
+ghost use Rattle.flt_explain_parts.specs.Members.{Adds, string_member};
+ghost use Rattle.flt_explain_parts.specs.Points.{regions};
 
-use crate::members::{
-    close_array, close_object, open_array, open_object, put_filled, put_key, put_marks, put_null,
-    put_number, put_region_members, put_string,
-};
-use crate::points::Points;
+use crate::places::{put_marks, put_region_members};
 use flt_explain_details::{Maker, Stage, WayKind};
+use flt_explain_parts::{
+    Points, close_array, close_object, open_array, open_object, put_filled, put_key, put_null,
+    put_number, put_string,
+};
 use flt_places::Files;
 use json::Writer;
 use sqlite_items::Items;

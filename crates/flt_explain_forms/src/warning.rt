@@ -1,15 +1,16 @@
 //! Warnings, as JSON.
 
-ghost use Rattle.std.specs.Prelude.{◌≡◌, ◌++◌, IfOk, codes, flat_map};
-ghost use Rattle.flt_explain_forms.specs.Members.{Adds, string_member};
+ghost use Rattle.std.specs.Prelude.{◌≡◌, ◌++◌, IfOk, flat_map};
 ghost use Rattle.flt_explain_forms.specs.Warning as spec;
+ghost use Rattle.flt_explain_parts.specs.Members.{Adds, string_member};
 ghost use Rattle.flt_explain_warnings.specs.Kinds.{kind_name};
 
-use crate::members::{
-    close_array, close_object, open_array, open_object, put_filled_items, put_items, put_key,
-    put_marks, put_null, put_number, put_string,
-};
+use crate::places::put_marks;
 use crate::preface::put_preface;
+use flt_explain_parts::{
+    close_array, close_object, open_array, open_object, put_filled_items, put_items, put_key,
+    put_null, put_numbers, put_string, put_warning_level,
+};
 use flt_explain_warning_details::{RelatedPlace, WarningDetail};
 use flt_explain_warnings::{Kind, Site};
 use flt_places::Files;
@@ -17,26 +18,11 @@ use json::Writer;
 use sqlite_items::Items;
 use std::alloc::{AllocError, Global};
 
-/// Writes the level of a warning, which breaks no rule.
-pub(crate) fn put_warning_level(writer: &mut Writer) -> Result<(), AllocError>
-    ensures { Adds result writer.old writer.new (string_member (codes "level") (codes "warning")) }
-{
-    put_string(writer, "level", "warning")
-}
-
 /// Writes the name of a kind of warnings under a name.
 pub(crate) fn put_kind_name(writer: &mut Writer, name: &str, kind: Kind) -> Result<(), AllocError>
     ensures { Adds result writer.old writer.new (string_member name.now (kind_name kind)) }
 {
     put_string(writer, name, kind.name())
-}
-
-/// Writes the numbers of a callback and of a point.
-pub(crate) fn put_numbers(writer: &mut Writer, site: Site) -> Result<(), AllocError>
-    ensures { Adds result writer.old writer.new (spec.numbers site) }
-{
-    put_number(writer, "callback", site.callback)?;
-    put_number(writer, "point", site.point)
 }
 
 fn put_no_site(writer: &mut Writer) -> Result<(), AllocError>

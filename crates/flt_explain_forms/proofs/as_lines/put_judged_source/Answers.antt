@@ -1,9 +1,9 @@
 use Rattle.std.proofs.Common.{◌++◌, ap, ◌∙◌, refl, append_assoc}
 use Rattle.flt_explain_texts.specs.Reports.{name_of}
+use Rattle.flt_explain_parts.specs.Warned.{status_of}
 use Rattle.flt_explain_forms.specs.Clean.{clean_lines}
 use Rattle.flt_explain_forms.specs.Lines.{IsPart, warning_lines}
 use Rattle.flt_explain_forms.specs.RunMember.{members_in}
-use Rattle.flt_explain_forms.specs.Warned.{status_of}
 use Rattle.flt_explain_forms.proofs.as_lines.put_judged_source.Goals as goal
 
 pub returns : goal.returns

@@ -1,6 +1,7 @@
 use Rattle.std.proofs.Common.{◌≡◌, ◌++◌, ℕ, List, IfOk, ap, subst, ◌∙◌}
-use Rattle.flt_explain_forms.specs.Fault.{fault, help_in, help_of, open_line}
-use Rattle.flt_explain_forms.specs.Members.{line_of}
+use Rattle.flt_explain_parts.specs.Help.{help_in, help_of, open_line}
+use Rattle.flt_explain_parts.specs.Members.{line_of}
+use Rattle.flt_explain_forms.specs.Fault.{fault}
 use Rattle.flt_explain_hints.specs.Telling.{notes_of, title_of}
 use Rattle.flt_explain_forms.proofs.as_lines.put_trouble.Goals as goal
 

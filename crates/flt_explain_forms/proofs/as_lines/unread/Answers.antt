@@ -1,6 +1,7 @@
 use Rattle.std.proofs.Common.{Some, refl}
-use Rattle.flt_explain_forms.specs.Fault.{IsFaultLine, fault, help_of}
-use Rattle.flt_explain_forms.specs.Members.{line_of}
+use Rattle.flt_explain_parts.specs.Help.{help_of}
+use Rattle.flt_explain_parts.specs.Members.{line_of}
+use Rattle.flt_explain_forms.specs.Fault.{IsFaultLine, fault}
 use Rattle.flt_explain_hints.specs.Telling.{title_of}
 use Rattle.flt_explain_hints.specs.Trouble.{IsDescribed}
 use Rattle.flt_explain_forms.proofs.as_lines.unread.Goals as goal

@@ -1,4 +1,4 @@
-use Rattle.flt_explain_forms.proofs.Adding.{written}
+use Rattle.flt_explain_parts.proofs.Adding.{written}
 use Rattle.flt_explain_forms.proofs.fault.put_fault_line.Goals as goal
 
 pub returns : goal.returns

@@ -1,4 +1,4 @@
-use Rattle.flt_explain_forms.proofs.Adding.{behind}
+use Rattle.flt_explain_parts.proofs.Adding.{behind}
 use Rattle.flt_explain_forms.proofs.fault.put_fault_place.Goals as goal
 
 pub returns : goal.returns

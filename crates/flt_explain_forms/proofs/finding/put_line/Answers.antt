@@ -1,8 +1,8 @@
 use Rattle.std.proofs.Common.{ℕ, ◌++◌, ap, ◌∙◌}
-use Rattle.flt_explain_forms.proofs.Adding.{written}
+use Rattle.flt_explain_parts.proofs.Adding.{written}
+use Rattle.flt_explain_parts.specs.Members.{line_of}
+use Rattle.flt_explain_parts.specs.Points.{region_at}
 use Rattle.flt_explain_forms.specs.Finding.{finding}
-use Rattle.flt_explain_forms.specs.Members.{line_of}
-use Rattle.flt_explain_forms.specs.Points.{region_at}
 use Rattle.flt_explain_forms.specs.RunMember.{member_of}
 use Rattle.flt_explain_forms.proofs.finding.put_line.Goals as goal
 

@@ -1,7 +1,7 @@
 use Rattle.std.proofs.Common.{arith}
+use Rattle.flt_explain_parts.proofs.Counting.{all_counted, one_counted_more}
 use Rattle.flt_explain_forms.specs.Finding.{numbered_line}
 use Rattle.flt_explain_forms.specs.RunMember.{members_in}
-use Rattle.flt_explain_forms.proofs.Counting.{all_counted, one_counted_more}
 use Rattle.flt_explain_forms.proofs.finding.put_lines.Goals as goal
 
 pub loop-finding-preserved : goal.loop-finding-preserved

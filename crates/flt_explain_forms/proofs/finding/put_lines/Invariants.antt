@@ -1,5 +1,5 @@
 use Rattle.std.proofs.Common.{◌≡◌, ◌++◌, drop}
-use Rattle.flt_explain_forms.specs.Counted.{counted}
+use Rattle.flt_explain_parts.specs.Counted.{counted}
 use Rattle.flt_explain_forms.specs.Finding.{finding_lines, numbered_line}
 use Rattle.flt_explain_forms.specs.RunMember.{members_in}
 use Rattle.flt_explain_forms.proofs.finding.put_lines.Given as goal

@@ -1,4 +1,4 @@
-use Rattle.flt_explain_forms.proofs.Adding.{behind}
+use Rattle.flt_explain_parts.proofs.Adding.{behind}
 use Rattle.flt_explain_forms.proofs.finding.put_words.Goals as goal
 
 pub returns : goal.returns

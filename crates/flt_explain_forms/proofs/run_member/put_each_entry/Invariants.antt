@@ -1,5 +1,5 @@
 use Rattle.std.proofs.Common.{flat_map, take}
-use Rattle.flt_explain_forms.specs.Members.{Added}
+use Rattle.flt_explain_parts.specs.Members.{Added}
 use Rattle.flt_explain_forms.specs.RunMember.{entry}
 use Rattle.flt_explain_forms.proofs.run_member.put_each_entry.Given as goal
 

@@ -1,4 +1,4 @@
-use Rattle.flt_explain_forms.proofs.Adding.{behind}
+use Rattle.flt_explain_parts.proofs.Adding.{behind}
 use Rattle.flt_explain_forms.proofs.run_member.put_entries.Goals as goal
 
 pub returns : goal.returns

@@ -1,6 +1,6 @@
 use Rattle.std.proofs.Common.{arith}
+use Rattle.flt_explain_parts.proofs.Adding.{one_line_more}
 use Rattle.flt_explain_forms.specs.Short.{finding_line}
-use Rattle.flt_explain_forms.proofs.Adding.{one_line_more}
 use Rattle.flt_explain_forms.proofs.short.put_findings.Goals as goal
 
 pub loop-detail-preserved : goal.loop-detail-preserved

@@ -1,4 +1,4 @@
-use Rattle.flt_explain_forms.proofs.Adding.{behind}
+use Rattle.flt_explain_parts.proofs.Adding.{behind}
 use Rattle.flt_explain_forms.proofs.steps.put_maker_member.Goals as goal
 
 pub returns-in_ok-put_key-in-Some : goal.returns-in_ok-put_key-in-Some

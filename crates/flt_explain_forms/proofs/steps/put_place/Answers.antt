@@ -1,6 +1,6 @@
 use Rattle.std.proofs.Common.{ap}
-use Rattle.flt_explain_forms.proofs.Adding.{same_adds}
-use Rattle.flt_explain_forms.specs.Members.{region_members}
+use Rattle.flt_explain_parts.proofs.Adding.{same_adds}
+use Rattle.flt_explain_forms.specs.Places.{region_members}
 use Rattle.flt_explain_forms.proofs.steps.put_place.Goals as goal
 
 pub returns : goal.returns

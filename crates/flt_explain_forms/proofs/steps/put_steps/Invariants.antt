@@ -1,6 +1,6 @@
 use Rattle.std.proofs.Common.{flat_map, take}
-use Rattle.flt_explain_forms.specs.Members.{Added}
-use Rattle.flt_explain_forms.specs.Points.{regions}
+use Rattle.flt_explain_parts.specs.Members.{Added}
+use Rattle.flt_explain_parts.specs.Points.{regions}
 use Rattle.flt_explain_forms.specs.Steps.{step}
 use Rattle.flt_explain_forms.proofs.steps.put_steps.Given as goal
 

@@ -1,6 +1,6 @@
 use Rattle.std.proofs.Common.{ℕ, ◌++◌, ap, ◌∙◌}
-use Rattle.flt_explain_forms.proofs.Adding.{written}
-use Rattle.flt_explain_forms.specs.Members.{line_of}
+use Rattle.flt_explain_parts.proofs.Adding.{written}
+use Rattle.flt_explain_parts.specs.Members.{line_of}
 use Rattle.flt_explain_forms.specs.Warning.{warning}
 use Rattle.flt_explain_forms.proofs.warning.put_line.Goals as goal
 

@@ -1,5 +1,5 @@
 use Rattle.std.proofs.Common.{flat_map, take}
-use Rattle.flt_explain_forms.specs.Members.{Added}
+use Rattle.flt_explain_parts.specs.Members.{Added}
 use Rattle.flt_explain_forms.specs.Warning.{related_place}
 use Rattle.flt_explain_forms.proofs.warning.put_related_places.Given as goal
 

@@ -1,9 +1,0 @@
-use Rattle.flt_explain_forms.proofs.Adding.{both}
-use Rattle.flt_explain_forms.proofs.as_sarif.put_run.Goals as goal
-
-pub returns : goal.returns
-returns c = (
-  c.in_ok-status.ensures.0,
-  c.in_ok-status.ensures.1,
-  both c.in_ok-open_object.ensures.ok (both c.in_ok-status.ensures.2 c.in_ok-close_object.ensures.ok),
-)

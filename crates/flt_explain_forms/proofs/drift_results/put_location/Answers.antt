@@ -1,7 +1,0 @@
-use Rattle.flt_explain_forms.proofs.Adding.{behind, both}
-use Rattle.flt_explain_forms.proofs.drift_results.put_location.Goals as goal
-
-pub returns : goal.returns
-returns c =
-    behind c.in_ok-open_object.ensures.ok
-    (behind (both c.in_ok-put_physical.ensures.ok c.in_ok-put_message.ensures.ok) c.close_object.ensures)

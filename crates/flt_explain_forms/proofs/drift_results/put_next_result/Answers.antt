@@ -1,9 +1,0 @@
-use Rattle.flt_explain_forms.proofs.drift_results.put_next_result.Goals as goal
-
-pub returns : goal.returns
-returns c =
-    let made = rw (c.as_str.ensures.value, c.in_ok-key.ensures, c.requires) at c.in_ok-print.ensures in (
-      made.1,
-      rw (c.as_str-2.ensures.value, made.0, c.region_of-region.ensures, c.in_ok-words.ensures, c.requires)
-          at c.in_ok-put_result.ensures.ok,
-    )

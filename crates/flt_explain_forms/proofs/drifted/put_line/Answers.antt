@@ -1,7 +1,0 @@
-use Rattle.flt_explain_forms.proofs.Adding.{written}
-use Rattle.flt_explain_forms.proofs.drifted.put_line.Goals as goal
-
-pub returns : goal.returns
-returns c =
-    written _ _ _ _ c.new-writer.ensures.before c.new-writer.ensures.tokens c.in_ok-put_drift.ensures.ok c.into_inner-out.ensures.items
-    c.in_ok-push.ensures.items

@@ -1,8 +1,0 @@
-use Rattle.flt_explain_forms.proofs.Adding.{behind}
-use Rattle.flt_explain_forms.proofs.members.put_region_members.Goals as goal
-
-pub returns : goal.returns
-returns c =
-    let other = rw c.file_at.ensures at c.in_ok-put_other_file.ensures.ok in
-    let place = rw (c.file_place.ensures, c.file_place-2.ensures) at c.put_place.ensures in
-    behind other place

@@ -1,0 +1,12 @@
+use Rattle.std.proofs.Common.{◌≡◌, ◌-◌, arith}
+use Rattle.flt_explain_parts.proofs.Adding.{behind}
+use Rattle.flt_explain_forms.proofs.places.put_place.Goals as goal
+
+pub returns : goal.returns
+returns c =
+    let last : c.args.end.column - 1 ≡ c.saturating_sub.result = omega arith in
+    rw last
+    (behind c.in_ok-put_number.ensures.ok
+    (behind c.in_ok-put_number-2.ensures.ok
+    (behind c.in_ok-put_number-3.ensures.ok
+    c.put_number-4.ensures)))

@@ -1,5 +1,0 @@
-use Rattle.flt_explain_forms.proofs.Adding.{behind}
-use Rattle.flt_explain_forms.proofs.results.put_all_flows.Goals as goal
-
-pub returns : goal.returns
-returns c = behind c.in_ok-put_own_flows.ensures.ok c.put_run_flow.ensures

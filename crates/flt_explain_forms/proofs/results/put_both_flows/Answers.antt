@@ -1,6 +1,0 @@
-use Rattle.flt_explain_forms.proofs.Adding.{behind}
-use Rattle.flt_explain_forms.proofs.results.put_both_flows.Goals as goal
-
-pub returns : goal.returns
-returns c =
-    behind c.in_ok-put_flow.ensures.ok c.put_other_flow.ensures

@@ -1,8 +1,0 @@
-use Rattle.std.proofs.Common.{flat_map, take}
-use Rattle.flt_explain_forms.specs.Members.{Added}
-use Rattle.flt_explain_forms.specs.Points.{regions}
-use Rattle.flt_explain_forms.specs.Results.{flow_step}
-use Rattle.flt_explain_forms.proofs.results.put_flow_steps.Given as goal
-
-abbrev pub invariant-loop-stage : goal.invariant-loop-stage
-invariant-loop-stage l = Added l.initial.writer l.writer (flat_map (flow_step l.file (regions l.points)) (take l.stage-index l.stages))

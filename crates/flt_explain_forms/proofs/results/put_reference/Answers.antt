@@ -1,6 +1,0 @@
-use Rattle.flt_explain_forms.proofs.Adding.{behind}
-use Rattle.flt_explain_forms.proofs.results.put_reference.Goals as goal
-
-pub returns : goal.returns
-returns c =
-    behind c.in_ok-put_items.ensures.ok c.put_base.ensures

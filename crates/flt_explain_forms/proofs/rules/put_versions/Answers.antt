@@ -1,6 +1,0 @@
-use Rattle.flt_explain_forms.proofs.Adding.{behind}
-use Rattle.flt_explain_forms.proofs.rules.put_versions.Goals as goal
-
-pub returns : goal.returns
-returns c =
-    behind c.in_ok-put_string.ensures.ok (behind c.in_ok-put_string-2.ensures.ok c.put_string-3.ensures)

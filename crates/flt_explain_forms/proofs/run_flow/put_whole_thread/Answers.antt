@@ -1,7 +1,0 @@
-use Rattle.flt_explain_forms.proofs.Adding.{behind}
-use Rattle.flt_explain_forms.proofs.run_flow.put_whole_thread.Goals as goal
-
-pub returns : goal.returns
-returns c =
-    behind c.in_ok-open_object.ensures.ok (behind c.in_ok-put_bytes.ensures.ok
-    (behind c.in_ok-put_locations.ensures.ok c.close_object.ensures))

@@ -1,6 +1,0 @@
-use Rattle.flt_explain_forms.proofs.Adding.{behind}
-use Rattle.flt_explain_forms.proofs.run_flow.put_words.Goals as goal
-
-pub returns : goal.returns
-returns c =
-    behind c.in_ok-put_key.ensures.ok (behind c.in_ok-open_object.ensures.ok (behind c.in_ok-put_items.ensures.ok c.close_object.ensures))

@@ -1,7 +1,0 @@
-use Rattle.flt_explain_forms.proofs.Adding.{behind}
-use Rattle.flt_explain_forms.proofs.unread.put_invocations.Goals as goal
-
-pub returns : goal.returns
-returns c =
-    behind c.in_ok-put_key.ensures.ok
-    (behind c.in_ok-open_array.ensures.ok (behind c.in_ok-put_invocation.ensures.ok c.close_array.ensures))

@@ -1,6 +1,0 @@
-use Rattle.flt_explain_forms.proofs.Adding.{behind}
-use Rattle.flt_explain_forms.proofs.warning.put_numbers.Goals as goal
-
-pub returns : goal.returns
-returns c =
-    behind c.in_ok-put_number.ensures.ok c.put_number-2.ensures

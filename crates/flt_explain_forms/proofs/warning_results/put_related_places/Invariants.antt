@@ -1,7 +1,0 @@
-use Rattle.std.proofs.Common.{flat_map, take}
-use Rattle.flt_explain_forms.specs.Members.{Added}
-use Rattle.flt_explain_forms.specs.WarningResults.{related_place}
-use Rattle.flt_explain_forms.proofs.warning_results.put_related_places.Given as goal
-
-abbrev pub invariant-loop-place : goal.invariant-loop-place
-invariant-loop-place l = Added l.initial.writer l.writer (flat_map (related_place l.file) (take l.place-index l.places))

@@ -1,8 +1,0 @@
-use Rattle.flt_explain_forms.proofs.Adding.{behind}
-use Rattle.flt_explain_forms.proofs.warning_results.put_result_members.Goals as goal
-
-pub returns : goal.returns
-returns c =
-    behind c.in_ok-put_of_rule.ensures.ok (behind c.in_ok-put_warning_level.ensures.ok
-    (behind c.in_ok-put_message.ensures.ok (behind c.in_ok-put_marked_locations.ensures.ok (behind c.in_ok-put_related.ensures.ok
-    (behind c.in_ok-put_fingerprints.ensures.ok (behind c.in_ok-put_properties.ensures.ok c.put_suppressions.ensures))))))

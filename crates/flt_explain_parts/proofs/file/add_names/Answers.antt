@@ -1,0 +1,14 @@
+use Rattle.std.proofs.Common.{arith}
+use Rattle.flt_places.specs.declared.files.SourceFile.{SourceFile}
+use Rattle.flt_explain_parts.proofs.Names.{all_names_in, one_name_more}
+use Rattle.flt_explain_parts.proofs.file.add_names.Goals as goal
+
+pub loop-file-preserved : goal.loop-file-preserved
+loop-file-preserved c =
+    one_name_more c.args.files.now c.loop-file.file-index c.file-item.result (omega (arith, c.loop-file-test.true)) c.file-item.is
+    (λ (f : SourceFile). f.name) _ _ _ c.loop-file.invariant c.in_ok-add_name.ensures
+
+pub returns : goal.returns
+returns c =
+    all_names_in c.args.files.now c.loop-file.file-index (omega (arith, c.loop-file-test.false)) (λ (f : SourceFile). f.name) _ _
+    c.loop-file.invariant

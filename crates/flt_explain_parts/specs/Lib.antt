@@ -1,0 +1,10 @@
+pub mod Counted
+pub mod Drifted
+pub mod Files
+pub mod Help
+pub mod Members
+pub mod Paragraphs
+pub mod Points
+pub mod Rules
+pub mod Uri
+pub mod Warned

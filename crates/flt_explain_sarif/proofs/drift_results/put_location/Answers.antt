@@ -1,0 +1,7 @@
+use Rattle.flt_explain_parts.proofs.Adding.{behind, both}
+use Rattle.flt_explain_sarif.proofs.drift_results.put_location.Goals as goal
+
+pub returns : goal.returns
+returns c =
+    behind c.in_ok-open_object.ensures.ok
+    (behind (both c.in_ok-put_physical.ensures.ok c.in_ok-put_message.ensures.ok) c.close_object.ensures)

@@ -1,0 +1,7 @@
+use Rattle.flt_explain_parts.proofs.Adding.{behind}
+use Rattle.flt_explain_sarif.proofs.results.put_fault_members.Goals as goal
+
+pub returns : goal.returns
+returns c =
+    behind c.in_ok-put_of_rule.ensures.ok (behind c.in_ok-put_level.ensures.ok (behind c.in_ok-put_message.ensures.ok
+    (behind c.in_ok-put_fault_locations.ensures.ok (behind c.in_ok-put_fault_properties.ensures.ok c.put_not_suppressed.ensures))))

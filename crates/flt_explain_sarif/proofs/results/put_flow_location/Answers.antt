@@ -1,0 +1,7 @@
+use Rattle.flt_explain_parts.proofs.Adding.{behind}
+use Rattle.flt_explain_sarif.proofs.results.put_flow_location.Goals as goal
+
+pub returns : goal.returns
+returns c =
+    behind c.in_ok-open_object.ensures.ok
+    (behind c.in_ok-put_key.ensures.ok (behind c.in_ok-put_location.ensures.ok c.close_object.ensures))

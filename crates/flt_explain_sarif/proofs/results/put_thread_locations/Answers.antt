@@ -1,0 +1,7 @@
+use Rattle.flt_explain_parts.proofs.Adding.{behind}
+use Rattle.flt_explain_sarif.proofs.results.put_thread_locations.Goals as goal
+
+pub returns : goal.returns
+returns c =
+    behind c.in_ok-put_key.ensures.ok
+    (behind c.in_ok-open_array.ensures.ok (behind c.in_ok-put_thread_places.ensures.ok c.close_array.ensures))

@@ -1,0 +1,10 @@
+use Rattle.flt_explain_parts.proofs.Adding.{behind}
+use Rattle.flt_explain_sarif.proofs.results.put_whole_artifact.Goals as goal
+
+pub returns : goal.returns
+returns c =
+    behind c.in_ok-put_key.ensures.ok
+    (behind c.in_ok-open_object.ensures.ok
+    (behind c.in_ok-put_reference.ensures.ok
+    (behind c.in_ok-put_number.ensures.ok
+    c.close_object.ensures)))

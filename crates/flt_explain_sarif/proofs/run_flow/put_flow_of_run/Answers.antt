@@ -1,0 +1,7 @@
+use Rattle.flt_explain_parts.proofs.Adding.{behind}
+use Rattle.flt_explain_sarif.proofs.run_flow.put_flow_of_run.Goals as goal
+
+pub returns : goal.returns
+returns c =
+    behind c.in_ok-open_object.ensures.ok (behind c.in_ok-put_broken.ensures.ok
+    (behind c.in_ok-put_thread_flows.ensures.ok c.close_object.ensures))
