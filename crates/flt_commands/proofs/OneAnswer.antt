@@ -10,7 +10,7 @@ use Rattle.flt_commands_texts.specs.Analyse.{IsAnalysed}
 use Rattle.flt_commands.specs.Answer.{IsOf, answered, output, status_of}
 use Rattle.flt_files.specs.Attempts.{Attempt}
 use Rattle.flt_commands_texts.specs.Check.{IsChecked}
-use Rattle.flt_commands.specs.Commands.{AnswersFor, IsReported, IsSaid, IsUnserved, codes_of, giving_for}
+use Rattle.flt_commands.specs.Commands.{Answers, AnswersFor, IsReported, IsSaid, IsUnserved, codes_of, gives_bytes, giving_for, out_of}
 use Rattle.flt_commands_texts.specs.Compare.{IsCompared}
 use Rattle.flt_commands_texts.specs.Extract.{IsExtracted}
 use Rattle.flt_commands_texts.specs.Format.{IsFormatSaid}
@@ -156,7 +156,7 @@ module _ (checked : SaysOne OfText IsChecked) (analysed : SaysOne OfText IsAnaly
   said_once gives shown showing Serve codes others texts more a b has one x y = unserved_once a b x y
 
   -- one thing is printed at most, with one exit status
-  pub printed_once : (gives : Giving) (written others : Text → Text → Type 0) (does did : List Attempt → Type 0) (shown showing : Bool)
+  printed_once : (gives : Giving) (written others : Text → Text → Type 0) (does did : List Attempt → Type 0) (shown showing : Bool)
       (request : Option Asked) (r s : Report) →
       AskForOne request → GivesOne gives → AnswersFor shown gives written does request r → AnswersFor showing gives others did request s →
       (r.output.items ≡ s.output.items) × (r.status ≡ s.status)
@@ -166,3 +166,14 @@ module _ (checked : SaysOne OfText IsChecked) (analysed : SaysOne OfText IsAnaly
       (said_once (giving_for request gives) shown showing request (codes_of r) (codes_of s) x.texts y.texts x.said y.said has
       (gives_one gives one request) x.is y.is)
       x.reported y.reported
+
+  -- the same of what goes out
+  pub let_out_once : (gives : Giving) (written others : Text → Text → Type 0) (does did : List Attempt → Type 0) (shown showing : Bool)
+      (request : Option Asked) (r s : Report) →
+      AskForOne request → GivesOne gives → Answers shown gives written does request r → Answers showing gives others did request s →
+      (r.output.items ≡ s.output.items) × (r.status ≡ s.status)
+  let_out_once gives written others does did shown showing request r s has one (a, x, p) (b, y, q) =
+      let same = printed_once gives written others does did shown showing request a b has one x y in (
+        p.output ∙ ap (out_of (gives_bytes request)) same.0 ∙ sym q.output,
+        p.status ∙ same.1 ∙ sym q.status,
+      )

@@ -24,7 +24,6 @@ use Rattle.flt_files.specs.Unread.{status_beside}
 use Rattle.flt_files.specs.declared.unread.UnreadFile.{UnreadFile}
 use Rattle.flt_model.specs.JournalText.{Entries, spelling}
 use Rattle.flt_words.specs.Request.{Asked, Choice, EmitInto, Explain, Format, Show}
-use Rattle.flt_words.specs.Words.{asked}
 use Rattle.flt_words.specs.declared.request.Colour.{Colour}
 use Rattle.flt_words.specs.declared.request.Form.{Form}
 use Rattle.flt_words.specs.declared.request.FormatMode.TheVariants.{Write}
@@ -155,38 +154,38 @@ quiet_for form colour search None warnings is_c files before (Err f) (Ok report)
     λ good names. absurd (good reported.1.1)
 quiet_for form colour search journal warnings is_c files before own (Err e) found reported same = tt
 
--- ---- of a request, and of the words that ask for it
+-- ---- of a request, and of what is asked for by it
 
-module _ (words : List (List ℕ)) (request : Asked) (asks : Some request ≡ asked words) where
-  -- what is answered to the request that words ask for is answered to the words
+module _ (wanted : Option Asked) (request : Asked) (asks : Some request ≡ wanted) where
+  -- what is answered to the request is answered to what is asked for
   pub answers_asked : (shown : Bool) (gives : Giving) (written : Text → Text → Type 0) (does : List Attempt → Type 0)
       (result : Result Report CommandFault) → IfOk result (IsAnswered shown gives written does request) →
-      IfOk result (λ report. Answers shown gives written does words report)
+      IfOk result (λ report. AnswersFor shown gives written does wanted report)
   answers_asked shown gives written does (Ok report) is = rw (← asks) is
   answers_asked shown gives written does (Err e) is = tt
 
-  -- where the request that words ask for is quiet, so are the words
+  -- where the request is quiet, so is what is asked for
   pub quiet_asked : (result : Result Report CommandFault) →
       IfOk result (λ report. report.status ≢ 2 → NamesNoJournal (Some request) → report.remark.items ≡ []) →
-      IfOk result (λ report. report.status ≢ 2 → NamesNoJournal (asked words) → report.remark.items ≡ [])
+      IfOk result (λ report. report.status ≢ 2 → NamesNoJournal wanted → report.remark.items ≡ [])
   quiet_asked result quiet = rw (← asks) quiet
 
-  -- what is cut short of the request that words ask for is cut short of the words
+  -- what is cut short of the request is cut short of what is asked for
   pub cut_asked : (gives : Giving) (old new : Option Text) (result : Result Report CommandFault) →
       IfErr result (λ e. e ≡ OutOfMemory → IsCutShort gives (Some request) old new) →
-      IfErr result (λ e. e ≡ OutOfMemory → IsCutShort gives (asked words) old new)
+      IfErr result (λ e. e ≡ OutOfMemory → IsCutShort gives wanted old new)
   cut_asked gives old new result cut = rw (← asks) cut
 
-  -- where the request that words ask for holds its output back, so do the words
-  pub held_asked : {O : Type 0} (old new : O) → (HoldsBack (Some request) → new ≡ old) → HoldsBack (asked words) → new ≡ old
+  -- where the request holds its output back, so does what is asked for
+  pub held_asked : {O : Type 0} (old new : O) → (HoldsBack (Some request) → new ≡ old) → HoldsBack wanted → new ≡ old
   held_asked old new held = rw (← asks) held
 
 -- where a folder is named for a driver, nothing is said of lines beside the answer
-pub never_quiet : (words : List (List ℕ)) (folder : Text) (is_forced : Bool) (file : Text) (cert : Option Text) →
-    Some (EmitInto folder is_forced file cert) ≡ asked words → (result : Result Report CommandFault) →
-    IfOk result (λ report. report.status ≢ 2 → NamesNoJournal (asked words) → report.remark.items ≡ [])
-never_quiet words folder is_forced file cert asks (Ok report) = rw (← asks) (λ good none. absurd none)
-never_quiet words folder is_forced file cert asks (Err e) = tt
+pub never_quiet : (wanted : Option Asked) (folder : Text) (is_forced : Bool) (file : Text) (cert : Option Text) →
+    Some (EmitInto folder is_forced file cert) ≡ wanted → (result : Result Report CommandFault) →
+    IfOk result (λ report. report.status ≢ 2 → NamesNoJournal wanted → report.remark.items ≡ [])
+never_quiet wanted folder is_forced file cert asks (Ok report) = rw (← asks) (λ good none. absurd none)
+never_quiet wanted folder is_forced file cert asks (Err e) = tt
 
 -- ---- what is done to files, in other words
 
@@ -261,11 +260,11 @@ module _ (written : Text → Text → Type 0) (does did : List Attempt → Type 
     kept = kept_as_done request is.texts is.said is.kept;
   }
 
-  -- what answers words answers them in other words of what is done
-  pub answers_as : (shown : Bool) (gives : Giving) (words : List (List ℕ)) (result : Result Report CommandFault) →
-      IfOk result (Answers shown gives written does words) → IfOk result (Answers shown gives written did words)
-  answers_as shown gives words (Ok report) is = answered_as shown gives (asked words) report is
-  answers_as shown gives words (Err e) is = tt
+  -- what answers a request answers it in other words of what is done
+  pub answers_as : (shown : Bool) (gives : Giving) (request : Option Asked) (result : Result Report CommandFault) →
+      IfOk result (Answers shown gives written does request) → IfOk result (Answers shown gives written did request)
+  answers_as shown gives request (Ok report) is = (is.0, answered_as shown gives request is.0 is.1, is.2)
+  answers_as shown gives request (Err e) is = tt
 
 -- what was done since nothing was is all that was done
 pub all_done : (same : Type 0) (old new : List Deed) → old ≡ [] → (same → new ≡ old) → (attempts : List Attempt) →
@@ -310,14 +309,14 @@ module _ (law : Law) (runs : LawOfRuns) (nowhere : SpelledFailsNowhere) (shown :
       (ap (map (option_map (λ (code : Vec ℕ Global). code.items))) (sym none)) reported remarked
   answered_without request texts said (Err f) is kept those none reported remarked = tt
 
-  -- the same of what the words ask for
-  pub answers_of : (words : List (List ℕ)) (request : Asked) (texts : List Text) (said : Result Answer Failure)
-      (result : Result Report CommandFault) → Some request ≡ asked words → IsSaid shown (giving_for request gives) request [] texts said →
+  -- the same of what is asked for
+  pub answers_of : (wanted : Option Asked) (request : Asked) (texts : List Text) (said : Result Answer Failure)
+      (result : Result Report CommandFault) → Some request ≡ wanted → IsSaid shown (giving_for request gives) request [] texts said →
       IsKept written does request texts said → IfOk result (λ report. AreThose request report texts said) →
       IfOk result (λ report. report.codes.items ≡ []) →
       IfOk result (λ report. IsReported said report.output.items report.status) →
       IfOk result (λ report. IsRemarked request said report.remark.items) →
-      IfOk result (λ report. Answers shown gives written does words report)
-  answers_of words request texts said (Ok report) asks is kept those none reported remarked =
+      IfOk result (λ report. AnswersFor shown gives written does wanted report)
+  answers_of wanted request texts said (Ok report) asks is kept those none reported remarked =
       rw (← asks) (answered_without request texts said (Ok report) is kept those none reported remarked)
-  answers_of words request texts said (Err f) asks is kept those none reported remarked = tt
+  answers_of wanted request texts said (Err f) asks is kept those none reported remarked = tt

@@ -1,11 +1,12 @@
 -- What a command line comes to: what is read, what is said of it, how that is printed,
 -- what it is worth and what is kept. This project's own program.
 use Rattle.std.specs.Io.KnownBytes.{Appends}
-use Rattle.std.specs.Prelude.{◌≡◌, ◌≢◌, ℕ, Bool, List, [], ◌∷◌, ◌++◌, Option, Some, None, Result}
+use Rattle.std.specs.Prelude.{◌≡◌, ◌≢◌, ℕ, Bool, true, false, List, [], ◌∷◌, ◌++◌, Option, Some, None, Result}
 use Rattle.std.specs.Prelude.{Ok, Err, IfOk, OnOk, codes, drop, map, option_map, unwrap_or}
 use Rattle.flt_commands_explain.specs.Allowed.{options_of}
 use Rattle.flt_commands_texts.specs.Analyse.{IsAnalysed}
 use Rattle.flt_commands.specs.Answer.{IsOf, ending_of, output, remark, status_of}
+use Rattle.flt_door.specs.Door.{AreShown, at_door}
 use Rattle.flt_files.specs.Attempts.{Attempt, AreDeedsOf}
 use Rattle.flt_files.specs.Deeds.{Deed}
 use Rattle.flt_commands_texts.specs.Check.{IsChecked}
@@ -28,8 +29,7 @@ use Rattle.flt_commands_runs.specs.Running.{IsRan}
 use Rattle.flt_commands_texts.specs.Thin.{IsThinned}
 use Rattle.flt_words.specs.Request.{Asked, Check, Analyse, Thin, Run, Replay, Show, Explain}
 use Rattle.flt_words.specs.Request.{Extract, Format, Pages, Emit, EmitInto, Compare, Serve}
-use Rattle.flt_words.specs.Words.{asked}
-use Rattle.flt_words.specs.declared.request.FormatMode.TheVariants.{Write}
+use Rattle.flt_words.specs.declared.request.FormatMode.TheVariants.{Print, Write}
 use Rattle.flt_commands.specs.declared.answer.Answer.{Answer}
 use Rattle.flt_commands.specs.declared.answer.Answer.TheVariants.{OfText, OfRun, OfExplain}
 use Rattle.flt_files.specs.declared.failure.Failure.{Failure}
@@ -178,15 +178,46 @@ pub record IsAnswered (shown : Bool) (gives : Giving) (written : Text → Text �
   pub clean : report.status ≡ 0 → IsClean request texts
   pub kept : IsKept written does request texts said
 
--- the report on a command line; of words that ask for nothing there is a text about their use
+-- the report on a command line by what it asks for; where that is nothing, there is a text about its use
 abbrev pub AnswersFor : Bool → Giving → (Text → Text → Type 0) → (List Attempt → Type 0) → Option Asked → Report → Type 0
 AnswersFor shown gives written does None report = IsNothing report.output.items report.status × does []
 AnswersFor shown gives written does (Some request) report = IsAnswered shown gives written does request report
 
-abbrev pub Answers : Bool → Giving → (Text → Text → Type 0) → (List Attempt → Type 0) → List (List ℕ) → Report → Type 0
-Answers shown gives written does words report = AnswersFor shown gives written does (asked words) report
+-- ---- what goes out of it
+
+-- the bytes for the standard output are the user's own, and go out as they are: text of annotations, a layout, or a part of a driver
+abbrev pub gives_bytes : Option Asked → Bool
+gives_bytes (Some (Extract of_map files)) = true
+gives_bytes (Some (Format Print files)) = true
+gives_bytes (Some (Emit part file cert)) = true
+gives_bytes request = false
+
+-- what goes out on the standard output: all other bytes pass the door
+abbrev pub out_of : Bool → Text → Text
+out_of true bytes = bytes
+out_of false bytes = at_door bytes
+
+-- this is what goes out of a report
+pub record IsLetOut (gives_bytes : Bool) (own report : Report) : Type 0 where
+  pub texts : report.texts ≡ own.texts
+  pub codes : report.codes ≡ own.codes
+  pub journal : report.journal ≡ own.journal
+  pub output : report.output.items ≡ out_of gives_bytes own.output.items
+  pub remark : report.remark.items ≡ at_door own.remark.items
+  pub status : report.status ≡ own.status
+
+-- what goes out of the report on a command line
+abbrev pub Answers : Bool → Giving → (Text → Text → Type 0) → (List Attempt → Type 0) → Option Asked → Report → Type 0
+Answers shown gives written does request report =
+    (own : Report) × AnswersFor shown gives written does request own × IsLetOut (gives_bytes request) own report
+
+-- each byte that goes out is a line feed, or belongs to a character that is shown or to one of the program's own colours; the bytes that
+-- are the user's own may be others
+pub record AllIsShown (request : Option Asked) (report : Report) : Type 0 where
+  pub output : gives_bytes request ≡ false → AreShown report.output.items
+  pub remark : AreShown report.remark.items
 
 -- the same, where nobody knows whether a terminal shows colours; and all that was done to files is this
-abbrev pub AnswersSomehow : Giving → (Text → Text → Type 0) → List Deed → List (List ℕ) → Report → Type 0
-AnswersSomehow gives written done words report =
-    (shown : Bool) × Answers shown gives written (λ attempts. AreDeedsOf attempts done) words report
+abbrev pub AnswersSomehow : Giving → (Text → Text → Type 0) → List Deed → Option Asked → Report → Type 0
+AnswersSomehow gives written done request report =
+    (shown : Bool) × Answers shown gives written (λ attempts. AreDeedsOf attempts done) request report

@@ -1,11 +1,12 @@
 //! The commands, over inputs and writers.
 
 ghost use Rattle.std.specs.Io.KnownBytes.{Appends};
-ghost use Rattle.std.specs.Prelude.{◌≡◌, ◌≢◌, ◌⊎◌, [], OnOk, IfOk, IfErr, drop, map, option_map, string_bytes, take, unwrap_or};
+ghost use Rattle.std.specs.Prelude.{◌≡◌, ◌≢◌, ◌⊎◌, [], OnOk, IfOk, IfErr, drop, map, option_map, take, unwrap_or};
 ghost use Rattle.flt_files.specs.Attempts.{Does};
 ghost use Rattle.flt_commands.specs.Commands as spec;
 ghost use Rattle.flt_commands_explain.specs.Explain.{is_coloured as is_coloured_as};
-ghost use Rattle.flt_words.specs.Words.{asked};
+ghost use Rattle.flt_door.specs.Lines.{Shows};
+ghost use Rattle.flt_words.specs.Request.{asked_of};
 
 use crate::answer::{Answer, of_explain, of_run, of_text};
 use crate::clean::{covered_texts_break_nothing, driven_texts_break_nothing};
@@ -19,11 +20,12 @@ use flt_commands_texts::{
     analyse_file, check_files, compare_files, emit_files, emit_files_into, extract_files,
     into_remark, thin_files,
 };
+use flt_door::all_that_goes_out_is_shown;
 use flt_files::{Contents, Failure, Inputs, Pictures, Texts};
 use flt_model::{Sink, put_all};
 use flt_stack_crew::{NoWatch, Watch};
 use flt_syntax::fails_exactly_where_nothing_is_spelled;
-use flt_words::{Colour, Request, read_words};
+use flt_words::{Colour, FormatMode, Request};
 use std::alloc::Global;
 use std::sync::Wait;
 use std::thread::Threads;
@@ -56,34 +58,49 @@ fn unserved() -> Result<Answer, Failure<'static>>
     Err(Failure::CannotRead("-"))
 }
 
-/// The report on a program's words, without its own name. A part of the output of `explain` may be written already.
+/// Whether a request is for bytes of the user on the standard output.
+fn gives_bytes(request: &Request) -> bool
+    ensures { result ≡ spec.gives_bytes (asked_of request.now) }
+{
+    match request {
+        Request::Extract { .. } => true,
+        Request::Format {
+            mode: FormatMode::Print,
+            ..
+        } => true,
+        Request::Emit { .. } => true,
+        _ => false,
+    }
+}
+
+/// The report on a request. A part of the output of `explain` may be written already.
 #[tactic(auto, using(crate::proofs::SentFor::cut_short_for, flt_commands_explain::proofs::Sent::none_sent))]
 fn report_of<'a, R: Threads + Wait + Sync, I: Inputs, P: Pictures, O: Sink, W: Watch + WatchSearch>(
     rt: &R,
     alloc: Global,
-    words: &'a [String],
+    request: Request<'a>,
     inputs: &'a I,
     pictures: &mut P,
     coloured: bool,
     out: &mut O,
     watch: &mut W,
 ) -> Result<Report, CommandFault>
-    ensures answers { IfOk result (spec.Answers coloured (I.gives inputs.now) (P.written pictures.new)
-        (Does (pictures.new ≡ pictures.old) (P.done pictures.old) (P.done pictures.new)) (map string_bytes words.now)) }
-    ensures quiet { IfOk result (λ report. report.status ≢ 2 → spec.NamesNoJournal (asked (map string_bytes words.now)) →
+    ensures answers { IfOk result (spec.AnswersFor coloured (I.gives inputs.now) (P.written pictures.new)
+        (Does (pictures.new ≡ pictures.old) (P.done pictures.old) (P.done pictures.new)) (asked_of request.entry)) }
+    ensures quiet { IfOk result (λ report. report.status ≢ 2 → spec.NamesNoJournal (asked_of request.entry) →
         report.remark.items ≡ []) }
-    ensures sent { IfOk result (λ report. Appends (O.taken out.old) (O.taken out.new) (take report.sent report.output.items)) }
+    ensures sent { IfOk result (λ report. Shows (O.taken out.old) (O.taken out.new) (take report.sent report.output.items)) }
     ensures fine { OnOk result (O.failures out.new ≡ O.failures out.old) }
     ensures write { IfErr result (λ e. e ≡ CommandFault.Write → O.failures out.new ≢ O.failures out.old) }
     ensures memory { IfErr result (λ e. e ≡ CommandFault.OutOfMemory →
-        spec.IsCutShort (I.gives inputs.now) (asked (map string_bytes words.now)) (O.taken out.old) (O.taken out.new)) }
-    ensures held { spec.HoldsBack (asked (map string_bytes words.now)) → out.new ≡ out.old }
+        spec.IsCutShort (I.gives inputs.now) (asked_of request.entry) (O.taken out.old) (O.taken out.new)) }
+    ensures held { spec.HoldsBack (asked_of request.entry) → out.new ≡ out.old }
 {
     covered_texts_break_nothing();
     driven_texts_break_nothing();
     fails_exactly_where_nothing_is_spelled();
     let mut contents = Contents::new(alloc);
-    match read_words(alloc, words)? {
+    match request {
         Request::Usage(text) => Ok(Report::on_usage(alloc, text)),
         Request::Check { file, cert } => {
             let whole = Some(last_of(file, cert));
@@ -265,13 +282,14 @@ fn write_report<O: Sink, E: Sink>(
     Ok(())
 }
 
-/// Runs the command of a program's words, without its own name, and returns the report on it once it is written. The answer goes to `out`;
+/// Runs the command of a request, and returns the report on it once it is written. The answer goes to `out`;
 /// the line that says why there is no answer, `full`, `detached already`, `receipts differ`, or that no run is found for a journal goes to
 /// `err`; a picture, a journal, a layout or a driver for files goes to `pictures`. The output of `explain` for a file is written as soon as
-/// it is made, unless it is one document or a file is named for a journal.
+/// it is made, unless it is one document or a file is named for a journal. All that is written passes the door of `flt_door`, but for the
+/// user's own bytes: the text of annotations, a layout and a part of a driver.
 /// Reports of `explain` have the colours of a terminal if `coloured`,
-/// unless the words say when. A command that drives filters reports each line of the script to `watch`, unless the words ask for quiet, and
-/// one that searches for runs how far it has come, if the words allow more states than the default. Threads are started by `run` alone, if
+/// unless the request says when. A command that drives filters reports each line of the script to `watch`, unless the request is for quiet, and
+/// one that searches for runs how far it has come, if the request allows more states than the default. Threads are started by `run` alone, if
 /// it has more than one worker. `serve` has no answer here: the report says that `-` can't be read. The server is
 /// `serve_client`.
 ///
@@ -279,7 +297,7 @@ fn write_report<O: Sink, E: Sink>(
 ///
 /// `OutOfMemory` if a growth is refused: nothing is written then, except the output of `explain` for the first files. `Write` if a write
 /// fails.
-#[tactic(auto, using(crate::proofs::SentFor::rest_sent))]
+#[tactic(auto, using(crate::proofs::SentFor::cut_short_for))]
 pub fn command<
     'a,
     R: Threads + Wait + Sync,
@@ -291,7 +309,7 @@ pub fn command<
 >(
     rt: &R,
     alloc: Global,
-    words: &'a [String],
+    request: Request<'a>,
     inputs: &'a I,
     pictures: &mut P,
     coloured: bool,
@@ -300,20 +318,24 @@ pub fn command<
     watch: &mut W,
 ) -> Result<Report, CommandFault>
     ensures answers { IfOk result (spec.Answers coloured (I.gives inputs.now) (P.written pictures.new)
-        (Does (pictures.new ≡ pictures.old) (P.done pictures.old) (P.done pictures.new)) (map string_bytes words.now)) }
+        (Does (pictures.new ≡ pictures.old) (P.done pictures.old) (P.done pictures.new)) (asked_of request.entry)) }
+    ensures shown { IfOk result (spec.AllIsShown (asked_of request.entry)) }
     ensures prints { IfOk result (λ report. Appends (O.taken out.old) (O.taken out.new) report.output.items) }
     ensures remarks { IfOk result (λ report. Appends (E.taken err.old) (E.taken err.new) report.remark.items) }
     ensures write { IfErr result (λ e. e ≡ CommandFault.Write → (O.failures out.new ≢ O.failures out.old)
         ⊎ (E.failures err.new ≢ E.failures err.old)) }
     ensures fine { OnOk result ((O.failures out.new ≡ O.failures out.old) × (E.failures err.new ≡ E.failures err.old)) }
     ensures memory { IfErr result (λ e. e ≡ CommandFault.OutOfMemory → (err.new ≡ err.old)
-        × spec.IsCutShort (I.gives inputs.now) (asked (map string_bytes words.now)) (O.taken out.old) (O.taken out.new)) }
-    ensures held { IfErr result (λ e. e ≡ CommandFault.OutOfMemory → spec.HoldsBack (asked (map string_bytes words.now)) →
+        × spec.IsCutShort (I.gives inputs.now) (asked_of request.entry) (O.taken out.old) (O.taken out.new)) }
+    ensures held { IfErr result (λ e. e ≡ CommandFault.OutOfMemory → spec.HoldsBack (asked_of request.entry) →
         out.new ≡ out.old) }
-    ensures quiet { IfOk result (λ report. report.status ≢ 2 → spec.NamesNoJournal (asked (map string_bytes words.now)) →
+    ensures quiet { IfOk result (λ report. report.status ≢ 2 → spec.NamesNoJournal (asked_of request.entry) →
         err.new ≡ err.old) }
 {
-    let report = report_of(rt, alloc, words, inputs, pictures, coloured, out, watch)?;
+    all_that_goes_out_is_shown();
+    let is_own = gives_bytes(&request);
+    let mut report = report_of(rt, alloc, request, inputs, pictures, coloured, out, watch)?;
+    report.let_out(is_own);
     write_report(&report, out, err)?;
     Ok(report)
 }

@@ -1,6 +1,6 @@
 //! The report on the outcome of `explain` for files.
 
-ghost use Rattle.std.specs.Io.KnownBytes.{Appends};
+ghost use Rattle.flt_door.specs.Lines.{Shows};
 ghost use Rattle.std.specs.Prelude.{◌≡◌, ◌≢◌, [], Bool, IfErr, IfOk, OnOk, Some, map, option_map, take};
 ghost use Rattle.flt_commands_explain.specs.Allowed.{options_of};
 ghost use Rattle.flt_files.specs.Attempts.{Does};
@@ -38,7 +38,7 @@ pub(crate) fn report_on_files<'a, I: Inputs, P: Pictures, O: Sink, W: SearchWatc
     ensures quiet { (colour : Colour) → (warnings : Choice) → IfOk result (λ report. report.status ≢ 2 →
         NamesNoJournal (Some (Explain asked.entry.form colour asked.entry.search (option_map (λ name. name.now) asked.entry.journal)
         warnings asked.entry.is_c (map (λ name. name.now) files.now))) → report.remark.items ≡ []) }
-    ensures sent { IfOk result (λ report. Appends (O.taken out.old) (O.taken out.new) (take report.sent report.output.items)) }
+    ensures sent { IfOk result (λ report. Shows (O.taken out.old) (O.taken out.new) (take report.sent report.output.items)) }
     ensures held { spec.HoldsBack asked.entry.form (option_map (λ name. name.now) asked.entry.journal) → out.new ≡ out.old }
     ensures fine { OnOk result (O.failures out.new ≡ O.failures out.old) }
     ensures write { IfErr result (λ e. e ≡ CommandFault.Write → O.failures out.new ≢ O.failures out.old) }

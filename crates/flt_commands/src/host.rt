@@ -1,24 +1,28 @@
 //! The program on its system: its streams, and its own words.
 
 ghost use Rattle.std.specs.Prelude.{◌≡◌, [], IfNone, IfOk, IfSome, map, string_bytes};
-ghost use Rattle.flt_commands.specs.Commands.{AnswersSomehow};
-ghost use Rattle.flt_commands.specs.Folders.{AreExpanded};
+ghost use Rattle.flt_commands.specs.Commands.{AllIsShown, AnswersSomehow};
+ghost use Rattle.flt_commands.specs.Folders.{AreExpanded, barred_in, names_in};
 ghost use Rattle.flt_commands_explain.specs.Served.{ServesSomehow};
 ghost use Rattle.flt_files.specs.Deeds.{deeds_in};
+ghost use Rattle.flt_files.specs.Folders.{said_by_host};
 ghost use Rattle.flt_files.specs.System.{given_by_host, written_by_host};
-ghost use Rattle.flt_words.specs.Words.{AskToServe};
+ghost use Rattle.flt_words.specs.Request.{asked_of, explained_files, with_files};
+ghost use Rattle.flt_words.specs.Words.{AskToServe, asked};
 
 use crate::commands::command;
-use crate::folders::{CommandLine, with_folders};
+use crate::folders::{ExpandedFiles, with_folders};
 use crate::report::Report;
 use crate::search::WatchSearch;
 use flt_commands_explain::{CommandFault, serve_client};
-use flt_files::{BarredFile, CountedReader, Deeds, HostSystem, Reader, SystemFiles, WrittenFiles};
+use flt_files::{
+    BarredFile, CountedReader, Deeds, HostFolders, HostSystem, Reader, SystemFiles, WrittenFiles,
+};
 use flt_model::{ReadFault, Writing};
 use flt_server_frames::{Incoming, ServeFault};
 use flt_stack_crew::Watch;
-use flt_words::ask_to_serve;
-use std::alloc::AllocError;
+use flt_words::{Request, ask_to_serve, read_words};
+use std::alloc::{AllocError, Global};
 use std::env::{self, VarError};
 use std::io;
 use std::io::{IsTerminal, Stdin, Stdout, Write};
@@ -113,12 +117,8 @@ impl<W: Write + Drop> Write for CheckedWriter<W> {
     }
 }
 
-/// The words of the command line, without the program's own name, with the texts of each folder that `explain` is given in its place; none
-/// if one of them isn't UTF-8.
-fn arguments(rt: &HostRuntime) -> Result<Option<CommandLine>, AllocError>
-    ensures { IfOk result (λ found. IfSome found (λ line.
-        AreExpanded (map string_bytes line.given.items) (map string_bytes line.words.items))) }
-{
+/// The words of the command line, without the program's own name; none if one of them isn't UTF-8.
+fn arguments(rt: &HostRuntime) -> Result<Option<Vec<String>>, AllocError> {
     let given = match env::args(rt) {
         Ok(given) => given,
         Err(fault) if fault.kind() == io::ErrorKind::InvalidData => return Ok(None),
@@ -129,7 +129,7 @@ fn arguments(rt: &HostRuntime) -> Result<Option<CommandLine>, AllocError>
     for word in given.skip(1) {
         words.push(word)?;
     }
-    Ok(Some(with_folders(rt, words)?))
+    Ok(Some(words))
 }
 
 /// Says on the standard error that memory ran out.
@@ -145,11 +145,9 @@ fn say_unwritten(rt: &HostRuntime, out: &CheckedWriter<Stdout>) {
 }
 
 /// The words of the command line; none if one of them isn't UTF-8, or if memory ran out, which the standard error then says.
-fn words_of(rt: &HostRuntime) -> Option<CommandLine>
-    ensures { IfSome result (λ line. AreExpanded (map string_bytes line.given.items) (map string_bytes line.words.items)) }
-{
+fn words_of(rt: &HostRuntime) -> Option<Vec<String>> {
     match arguments(rt) {
-        Ok(Some(line)) => Some(line),
+        Ok(Some(words)) => Some(words),
         Ok(None) => {
             let _ = eprintln!(rt; "a word is not UTF-8");
             None
@@ -165,10 +163,10 @@ fn words_of(rt: &HostRuntime) -> Option<CommandLine>
 #[derive(Drop)]
 pub struct Execution {
     /// The words of the command line, without the program's own name.
-    pub given: Vec<String>,
-    /// The same with the texts of each folder that `explain` is given in its place.
     pub words: Vec<String>,
-    /// The report on them; none if a word isn't UTF-8, memory ran out or a write failed, and for a server.
+    /// The files of `explain` that these name, with the texts of each folder in its place.
+    pub files: ExpandedFiles,
+    /// The report on the words, with these files; none if a word isn't UTF-8, memory ran out or a write failed, and for a server.
     pub report: Option<Report>,
     /// How a server ended; none where there was none, memory ran out, or a read or a write failed.
     pub served: Option<u8>,
@@ -217,15 +215,16 @@ fn shows_colours(rt: &HostRuntime) -> Result<bool, AllocError> {
     Ok(!is_dumb(rt)?)
 }
 
-/// Runs the command of some words on the system, of which some files aren't opened, and returns the report on it, and the changes to
-/// files. The standard error says if memory ran out, or why the answer isn't written.
-fn execute<R: Threads + Wait + Sync>(
+/// Runs the command of a request on the system, of which some files aren't opened, and returns the report on it, and the changes to files.
+/// The standard error says if memory ran out, or why the answer isn't written.
+fn execute<'a, R: Threads + Wait + Sync>(
     rt: &HostRuntime,
     threads: &R,
-    words: &[String],
+    request: Request<'a>,
     barred: &[BarredFile],
 ) -> (Option<Report>, Deeds)
-    ensures { IfSome result.0 (AnswersSomehow given_by_host written_by_host (deeds_in result.1) (map string_bytes words.now)) }
+    ensures answered { IfSome result.0 (AnswersSomehow given_by_host written_by_host (deeds_in result.1) (asked_of request.entry)) }
+    ensures shown { IfSome result.0 (AllIsShown (asked_of request.entry)) }
 {
     let files = HostSystem::new(rt, barred);
     let host = HostSystem::new(rt, barred);
@@ -243,7 +242,7 @@ fn execute<R: Threads + Wait + Sync>(
     let result = command(
         threads,
         rt.alloc(),
-        words,
+        request,
         &SystemFiles::new(&files),
         &mut written,
         coloured,
@@ -263,6 +262,65 @@ fn execute<R: Threads + Wait + Sync>(
             (None, deeds)
         }
     }
+}
+
+/// Some names, as slices.
+fn slices_of<'a>(alloc: Global, names: &'a [String]) -> Result<Vec<&'a str>, AllocError>
+    ensures { IfOk result (λ slices. map (λ name. name.now) slices.items ≡ map string_bytes names.entry.now) }
+{
+    let mut slices = Vec::new(alloc);
+    for name in names {
+        slices.push(name.as_str())?;
+    }
+    Ok(slices)
+}
+
+/// The files of `explain` that some words name, with the texts of each folder in its place.
+fn files_of_words(rt: &HostRuntime, words: &[String]) -> Result<ExpandedFiles, AllocError>
+    ensures { IfOk result (λ files. AreExpanded said_by_host (explained_files (asked (map string_bytes words.now)))
+        (names_in files) (barred_in files)) }
+{
+    let request = read_words(rt.alloc(), words)?;
+    let folders = HostFolders::new(rt);
+    with_folders(rt.alloc(), &folders, request.explained_files())
+}
+
+/// Runs the command of some words on the system, with these files in place of those that they name for `explain`, of which some aren't
+/// opened, and returns the report on it, and the changes to files.
+fn execute_with<'a, R: Threads + Wait + Sync>(
+    rt: &HostRuntime,
+    threads: &R,
+    words: &'a [String],
+    files: &'a [String],
+    barred: &[BarredFile],
+) -> Result<(Option<Report>, Deeds), AllocError>
+    ensures answered { IfOk result (λ done. IfSome done.0 (AnswersSomehow given_by_host written_by_host (deeds_in done.1)
+        (with_files (map string_bytes files.entry.now) (asked (map string_bytes words.entry.now))))) }
+    ensures shown { IfOk result (λ done. IfSome done.0 (AllIsShown
+        (with_files (map string_bytes files.entry.now) (asked (map string_bytes words.entry.now))))) }
+{
+    let request = read_words(rt.alloc(), words)?;
+    let names = slices_of(rt.alloc(), files)?;
+    Ok(execute(rt, threads, request.with_files(names), barred))
+}
+
+/// The files of `explain` that some words name, with the texts of each folder in its place; and the report on the words with these files, and
+/// the changes to files.
+fn execute_words<R: Threads + Wait + Sync>(
+    rt: &HostRuntime,
+    threads: &R,
+    words: &[String],
+) -> Result<(ExpandedFiles, Option<Report>, Deeds), AllocError>
+    ensures expanded { IfOk result (λ done. AreExpanded said_by_host (explained_files (asked (map string_bytes words.now)))
+        (names_in done.0) (barred_in done.0)) }
+    ensures answered { IfOk result (λ done. IfSome done.1 (AnswersSomehow given_by_host written_by_host (deeds_in done.2)
+        (with_files (names_in done.0) (asked (map string_bytes words.now))))) }
+    ensures shown { IfOk result (λ done. IfSome done.1 (AllIsShown (with_files (names_in done.0) (asked (map string_bytes words.now))))) }
+{
+    let files = files_of_words(rt, words)?;
+    let names = files.names.as_slice();
+    let (report, deeds) = execute_with(rt, threads, words, names, files.barred.as_slice())?;
+    Ok((files, report, deeds))
 }
 
 /// Says on the standard error why a server ended without a status.
@@ -300,59 +358,62 @@ fn serve_streams(rt: &HostRuntime) -> Option<u8>
     }
 }
 
+/// The execution of some words of which nothing was done.
+fn not_executed(rt: &HostRuntime, words: Vec<String>) -> Execution
+    ensures words { result.words ≡ words }
+    ensures report { result.report ≡ None }
+    ensures served { result.served ≡ None }
+    ensures deeds { deeds_in result.deeds ≡ [] }
+{
+    Execution {
+        words,
+        files: ExpandedFiles::new(rt.alloc()),
+        report: None,
+        served: None,
+        deeds: Deeds::new(rt.alloc()),
+    }
+}
+
 /// Runs the command of the program's own words on the system, and returns the words with the report on them and with the changes to files;
-/// or runs a server, if they ask for one, and returns the words with its exit status. `threads` is the same runtime once more: `main` alone
-/// can pass on that it starts threads.
+/// or runs a server, if they ask for one, and returns the words with its exit status. The report is on the texts of each folder that
+/// `explain` is given, which are returned, too. `threads` is the same runtime once more: `main` alone can pass on that it starts threads.
 pub fn run<R: Threads + Wait + Sync>(rt: &HostRuntime, threads: &R) -> Execution
     ensures answered { IfSome result.report (AnswersSomehow given_by_host written_by_host (deeds_in result.deeds)
-        (map string_bytes result.words.items)) }
+        (with_files (names_in result.files) (asked (map string_bytes result.words.items)))) }
+    ensures expanded { IfSome result.report (λ _. AreExpanded said_by_host
+        (explained_files (asked (map string_bytes result.words.items))) (names_in result.files) (barred_in result.files)) }
+    ensures shown { IfSome result.report (AllIsShown (with_files (names_in result.files) (asked (map string_bytes result.words.items)))) }
     ensures served { IfSome result.served ServesSomehow }
     ensures apart { IfSome result.report (λ _. ¬ (AskToServe (map string_bytes result.words.items))) }
     ensures asked { IfSome result.served (λ _. AskToServe (map string_bytes result.words.items)) }
     ensures untouched { IfSome result.served (λ _. deeds_in result.deeds ≡ []) }
-    ensures expanded { AreExpanded (map string_bytes result.given.items) (map string_bytes result.words.items) }
 {
-    let Some(line) = words_of(rt) else {
-        return Execution {
-            given: Vec::new(rt.alloc()),
-            words: Vec::new(rt.alloc()),
-            report: None,
-            served: None,
-            deeds: Deeds::new(rt.alloc()),
-        };
+    let Some(words) = words_of(rt) else {
+        return not_executed(rt, Vec::new(rt.alloc()));
     };
-    let CommandLine {
-        given,
-        words,
-        barred,
-    } = line;
     match ask_to_serve(rt.alloc(), words.as_slice()) {
-        Ok(true) => Execution {
-            report: None,
-            served: serve_streams(rt),
-            deeds: Deeds::new(rt.alloc()),
-            given,
-            words,
-        },
-        Ok(false) => {
-            let (report, deeds) = execute(rt, threads, words.as_slice(), barred.as_slice());
-            Execution {
+        Ok(true) => {
+            let served = serve_streams(rt);
+            let mut execution = not_executed(rt, words);
+            execution.served = served;
+            execution
+        }
+        Ok(false) => match execute_words(rt, threads, words.as_slice()) {
+            Ok((files, report, deeds)) => Execution {
+                words,
+                files,
                 report,
                 served: None,
                 deeds,
-                given,
-                words,
+            },
+            Err(_) => {
+                say_out_of_memory(rt);
+                not_executed(rt, words)
             }
-        }
+        },
         Err(_) => {
             say_out_of_memory(rt);
-            Execution {
-                report: None,
-                served: None,
-                deeds: Deeds::new(rt.alloc()),
-                given,
-                words,
-            }
+            not_executed(rt, words)
         }
     }
 }

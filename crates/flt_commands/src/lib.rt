@@ -18,6 +18,7 @@ pub use commands::command;
 pub use flt_commands_explain::{CommandFault, serve_client};
 pub use flt_server_frames::{Incoming, ServeFault};
 pub use flt_stack_crew::{NoWatch, Watch};
+pub use folders::ExpandedFiles;
 pub use host::{Execution, run};
 pub use report::Report;
 pub use search::WatchSearch;

@@ -11,6 +11,7 @@ ghost use Rattle.flt_commands.specs.FailureLine.{failure_line};
 use crate::answer::Answer;
 use crate::failure_line::failure_line;
 use flt_commands_explain::{CommandFault, Explanation};
+use flt_door::let_out;
 use flt_explain_runs::ExplainOutput;
 use flt_files::{Contents, Failure, UnreadFile, status_beside};
 use flt_model::Journal;
@@ -101,6 +102,15 @@ impl Report {
         }
     }
 
+    /// Lets the report out: its output, unless that has the user's own bytes, and its remark.
+    pub(crate) fn let_out(&mut self, gives_bytes: bool)
+        ensures out { spec.IsLetOut gives_bytes self.old self.new }
+        ensures sent { self.new.sent ≡ self.old.sent }
+    {
+        let_output_out(&mut self.output, gives_bytes);
+        let_out(self.remark.as_mut_slice());
+    }
+
     /// The bytes for the standard output that aren't written yet.
     pub(crate) fn rest(&self) -> &[u8]
         ensures { result.now ≡ drop self.now.sent self.now.output.items }
@@ -112,6 +122,16 @@ impl Report {
             &[]
         }
     }
+}
+
+/// Lets the output of a report out, unless it is the user's own bytes.
+fn let_output_out(output: &mut Vec<u8>, gives_bytes: bool)
+    ensures { output.new.items ≡ spec.out_of gives_bytes output.old.items }
+{
+    if gives_bytes {
+        return;
+    }
+    let_out(output.as_mut_slice());
 }
 
 /// The line on the standard error for a journal with this ending, if it has one.

@@ -1,6 +1,6 @@
 //! The law that a command line has at most one answer.
 
-ghost use Rattle.std.specs.Prelude.{◌≡◌, ℕ, Bool, List, Option, Result};
+ghost use Rattle.std.specs.Prelude.{◌≡◌, Bool, List, Option, Result};
 ghost use Rattle.flt_commands_texts.specs.Analyse.{IsAnalysed};
 ghost use Rattle.flt_files.specs.Attempts.{Does};
 ghost use Rattle.flt_commands_texts.specs.Check.{HasPoints, IsChecked};
@@ -10,7 +10,6 @@ ghost use Rattle.flt_commands_runs.specs.Replay.{IsReplayed};
 ghost use Rattle.flt_commands.specs.Single as spec;
 ghost use Rattle.flt_commands_texts.specs.Thin.{IsThinned};
 ghost use Rattle.flt_words.specs.Request.{Asked};
-ghost use Rattle.flt_words.specs.Words.{asked};
 ghost use Rattle.flt_commands.specs.declared.answer.Answer.{Answer};
 ghost use Rattle.flt_commands.specs.declared.answer.Answer.TheVariants.{OfRun, OfText};
 ghost use Rattle.flt_files.specs.declared.failure.Failure.{Failure};
@@ -82,12 +81,12 @@ fn one_verdict_at_most()
 /// reports, no page, no layout that is written and no part of a driver. It has one output and one exit status at most, and one reason why
 /// there is no answer, unless memory ran out. It does nothing at run time: its clauses are the law.
 pub fn one_answer_at_most<I: Inputs, P: Pictures>()
-    ensures one { (inputs : I) (before pictures past others : P) (shown showing : Bool) (words : List (List ℕ)) (a b : Report) →
-        spec.AskForOne (asked words) →
+    ensures one { (inputs : I) (before pictures past others : P) (shown showing : Bool) (request : Option Asked) (a b : Report) →
+        spec.AskForOne request →
         spec.GivesOne (I.gives inputs) → Answers shown (I.gives inputs) (P.written pictures)
-        (Does (pictures ≡ before) (P.done before) (P.done pictures)) words a →
+        (Does (pictures ≡ before) (P.done before) (P.done pictures)) request a →
         Answers showing (I.gives inputs) (P.written others)
-        (Does (others ≡ past) (P.done past) (P.done others)) words b → (a.output.items ≡ b.output.items) × (a.status ≡ b.status) }
+        (Does (others ≡ past) (P.done past) (P.done others)) request b → (a.output.items ≡ b.output.items) × (a.status ≡ b.status) }
     ensures said { (inputs : I) (shown showing : Bool) (request : Asked) (codes others : List (Option Text)) (texts more : List Text)
         (a b : Result Answer Failure) → spec.HasOneAnswer request → spec.GivesOne (I.gives inputs) →
         IsSaid shown (I.gives inputs) request codes texts a → IsSaid showing (I.gives inputs) request others more b → spec.AreSame a b }

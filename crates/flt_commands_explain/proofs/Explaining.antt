@@ -1,8 +1,8 @@
 -- What `explain` of files comes to, and what went out of it.
 use Rattle.std.proofs.Common.{◌≡◌, ◌≢◌, ◌∙◌, ℕ, true, false, Bool, List, ◌++◌, Bor, Vec, Global, Option, Some, None, OnOk}
 use Rattle.std.proofs.Common.{Result, Ok, Err, IfErr, IfOk, IsErr, ap, flat_map, map, option_map, refl, sym, take}
-use Rattle.std.proofs.KnownBytes.{Appends-nil}
-use Rattle.std.specs.Io.KnownBytes.{Appends}
+use Rattle.flt_door.proofs.Lines.{shows_nothing}
+use Rattle.flt_door.specs.Lines.{Shows}
 use Rattle.std.specs.List.{AllZip}
 use Rattle.flt_explain_texts.specs.declared.sources.Source.{Source}
 use Rattle.flt_explain_parts.specs.declared.drifted.DriftedFile.{DriftedFile}
@@ -165,11 +165,11 @@ module _ (gives : Giving) (is_c : Bool) (form : Form) (options : WarningOptions)
 
 -- what went out of it
 pub sent_of_said : {O : Type 0} (taken : O → Option Text) (old new : O) (form : Form) (journal : Option Text) (told : ExplainOutput)
-    (unread : List UnreadFile) (said : Explanation) → Appends (taken old) (taken new) (take told.sent told.explained.output.items) →
+    (unread : List UnreadFile) (said : Explanation) → Shows (taken old) (taken new) (take told.sent told.explained.output.items) →
     (HoldsBack form journal → new ≡ old) → IsToldOrUnwritten told unread journal said → IsSent (taken old) (taken new) (said_of said)
 sent_of_said taken old new form journal told unread (Said t others) sent held (same, all) = rw same sent
 sent_of_said taken old new form journal told unread (Unwritten name why) sent held same =
-    rw (held (holds_some form journal name.now same)) (Appends-nil (taken old))
+    rw (held (holds_some form journal name.now same)) (shows_nothing (taken old))
 
 -- which files aren't read
 pub unread_of_said : (journal : Option Text) (told : ExplainOutput) (unread : List UnreadFile) (lines : List ℕ) (said : Explanation) →

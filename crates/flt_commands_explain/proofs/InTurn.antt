@@ -1,8 +1,10 @@
 -- Lines of several texts, one text's behind the other's.
 use Rattle.std.proofs.Common.{◌≡◌, ◌∙◌, ℕ, suc, ◌+◌, ◌<◌, List, [], ◌∷◌, ◌++◌, Option, None, length, take, get_or, max, refl, ap, arith}
 use Rattle.std.proofs.Math.Seq.{take-suc}
-use Rattle.std.proofs.KnownBytes.{Appends-nil, Appends-trans}
+use Rattle.flt_door.proofs.Lines.{shows_both, shows_nothing}
 use Rattle.std.specs.Io.KnownBytes.{Appends}
+use Rattle.flt_door.specs.Door.{at_door}
+use Rattle.flt_door.specs.Lines.{Shows}
 use Rattle.flt_explain_texts.specs.declared.sources.Printout.{Printout}
 use Rattle.flt_explain_texts.specs.declared.sources.Source.{Source}
 use Rattle.flt_explain_forms.specs.Lines.{AreLines, AreLinesFrom, IsPart}
@@ -10,20 +12,21 @@ use Rattle.flt_explain_forms.specs.RunMember.{no_member, no_run}
 use Rattle.flt_explain_forms.specs.declared.as_lines.Style.{Style}
 use Rattle.flt_explain_warning_details.specs.declared.options.WarningOptions.{WarningOptions}
 use Rattle.flt_files.specs.Inputs.{Text}
+use Rattle.flt_commands_explain.proofs.WholeLines.{lines_of_text}
 use Rattle.flt_commands_explain.specs.InTurn.{AreFirstLines, IsTextMore}
 
 -- what is told of a text by itself is one text more behind others
 pub text_more : (style : Style) (options : WarningOptions) (s : Source) (before after : Printout) (old new : Option Text)
     (printed : List ℕ) (status : ℕ) →
     AreLines style options (s ∷ []) None printed status → after.output.items ≡ before.output.items ++ printed →
-    after.status ≡ max before.status status → Appends old new printed → IsTextMore style options s before after old new
+    after.status ≡ max before.status status → Appends old new (at_door printed) → IsTextMore style options s before after old new
 text_more style options s before after old new printed status (part, own, others, is, (same, none), greatest) output most sent = record {
   part = part;
   own = own;
   is = is;
   output = output ∙ ap (λ bytes. before.output.items ++ bytes) same;
   status = omega (arith, most, greatest, none);
-  sent = rw same at sent;
+  sent = record { lines = lines_of_text style options no_run s part own is; out = rw same at sent };
 }
 
 max_assoc : (a b c : ℕ) → max (max a b) c ≡ max a (max b c)
@@ -65,14 +68,14 @@ one_more_told all i d within style options before after old new are more =
 
 -- all that is told so far went out
 pub more_sent : (style : Style) (options : WarningOptions) (s : Source) (before after : Printout) (old between new : Option Text) →
-    Appends old between before.output.items → IsTextMore style options s before after between new → Appends old new after.output.items
+    Shows old between before.output.items → IsTextMore style options s before after between new → Shows old new after.output.items
 more_sent style options s before after old between new first more =
-    rw more.output (Appends-trans old between new before.output.items more.part first more.sent)
+    rw more.output (shows_both old between new before.output.items more.part first more.sent)
 
 -- what went out is what is told of the first texts
 pub first_lines : (style : Style) (options : WarningOptions) (sources : List Source) (count : ℕ) (told : Printout)
     (old new : Option Text) →
-    AreLines style options (take count sources) None told.output.items told.status → Appends old new told.output.items →
+    AreLines style options (take count sources) None told.output.items told.status → Shows old new told.output.items →
     AreFirstLines style options sources old new
 first_lines style options sources count told old new are sent =
     record { count = count; printed = told.output.items; status = told.status; are = are; sent = sent }
@@ -81,7 +84,7 @@ first_lines style options sources count told old new are sent =
 pub lines_cut : {O : Type 0} (taken : O → Option Text) (style : Style) (options : WarningOptions) (sources : List Source)
     (count : ℕ) (told : Printout)
     (old between new : O) → AreLines style options (take count sources) None told.output.items told.status →
-    Appends (taken old) (taken between) told.output.items → new ≡ between →
+    Shows (taken old) (taken between) told.output.items → new ≡ between →
     AreFirstLines style options sources (taken old) (taken new)
 lines_cut taken style options sources count told old between new are sent same =
     rw same (first_lines style options sources count told (taken old) (taken between) are sent)
@@ -94,5 +97,5 @@ no_lines style options sources old = record {
   printed = [];
   status = 0;
   are = (refl, refl);
-  sent = Appends-nil old;
+  sent = shows_nothing old;
 }

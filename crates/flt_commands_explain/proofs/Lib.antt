@@ -11,3 +11,4 @@ pub mod NewServers
 pub mod Paged
 pub mod Sent
 pub mod ServedFile
+pub mod WholeLines

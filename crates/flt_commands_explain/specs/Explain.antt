@@ -1,7 +1,7 @@
 -- What `explain` says. This project's own program.
 use Rattle.std.specs.Borrow.{Bor}
 use Rattle.std.specs.Io.{StartsWith}
-use Rattle.std.specs.Io.KnownBytes.{Appends}
+use Rattle.flt_door.specs.Lines.{Shows}
 use Rattle.std.specs.List.{AllZip, list_all}
 use Rattle.std.specs.Prelude.{◌≡◌, ℕ, ◌+◌, List, [], ◌∷◌, ◌++◌, Bool, map, true, false, Option}
 use Rattle.std.specs.Prelude.{Some, None, Result, Ok, Err, length, max, take}
@@ -250,31 +250,31 @@ GoesOutEarly SarifWithRuns options sources search e = Unit {0}
 
 -- what went out of an answer; where there is none, nothing did
 abbrev pub IsSent : Option Text → Option Text → Result ExplainAnswer Failure → Type 0
-IsSent old new (Ok answer) = Appends old new (take (sent_of answer) (output answer))
-IsSent old new (Err f) = Appends old new []
+IsSent old new (Ok answer) = Shows old new (take (sent_of answer) (output answer))
+IsSent old new (Err f) = Shows old new []
 
 -- where memory runs out, what went out is told of the first texts: whole reports, or whole lines of each
 abbrev pub IsCutIn : Form → WarningOptions → RunSearch → List Source → Option Text → Option Text → Type 0
 IsCutIn Human options search sources old new = IsCut options sources search old new
 IsCutIn Short options search sources old new = AreFirstLines Sentence options sources old new
 IsCutIn Lines options search sources old new = AreFirstLines Object options sources old new
-IsCutIn Sarif options search sources old new = Appends old new []
-IsCutIn Html options search sources old new = Appends old new []
-IsCutIn LinesWithRuns options search sources old new = Appends old new []
-IsCutIn SarifWithRuns options search sources old new = Appends old new []
+IsCutIn Sarif options search sources old new = Shows old new []
+IsCutIn Html options search sources old new = Shows old new []
+IsCutIn LinesWithRuns options search sources old new = Shows old new []
+IsCutIn SarifWithRuns options search sources old new = Shows old new []
 
 -- the same after these drifts; or nothing went out
 pub data IsCutAfter (drifts : Text) (form : Form) (options : WarningOptions) (search : RunSearch) (sources : List Source)
     (old new : Option Text) : Type 0 where
-  nothing_out : Appends old new [] → IsCutAfter drifts form options search sources old new
-  drifts_out : (between : Option Text) → Appends old between drifts → IsCutIn form options search sources between new →
+  nothing_out : Shows old new [] → IsCutAfter drifts form options search sources old new
+  drifts_out : (between : Option Text) → Shows old between drifts → IsCutIn form options search sources between new →
       IsCutAfter drifts form options search sources old new
 
 -- the same of the texts that files make that are read, after the drifts of the C files among them but for kinds of these names; or
 -- nothing went out
 pub data IsCutOfFiles (form : Form) (options : WarningOptions) (search : RunSearch) (allowed : List Text) (files : List Given)
     (old new : Option Text) : Type 0 where
-  none_told : Appends old new [] → IsCutOfFiles form options search allowed files old new
+  none_told : Shows old new [] → IsCutOfFiles form options search allowed files old new
   some_told : (drifted : List DriftedFile) (sources : List Source) (refused : List Text) → AreDrifted allowed files drifted →
       AreSources (told_name form) files sources refused → IsCutAfter (first_in form drifted) form options search sources old new →
       IsCutOfFiles form options search allowed files old new
@@ -283,7 +283,7 @@ pub data IsCutOfFiles (form : Form) (options : WarningOptions) (search : RunSear
 pub data IsCutShort (gives : Giving) (is_c : Bool) (form : Form) (options : WarningOptions) (search : RunSearch) (allowed names : List Text)
     (old new : Option Text) :
     Type 0 where
-  none_read : Appends old new [] → IsCutShort gives is_c form options search allowed names old new
+  none_read : Shows old new [] → IsCutShort gives is_c form options search allowed names old new
   some_read : (files : List Given) (missing : List Text) → AreFound is_c gives names files missing →
       IsCutOfFiles form options search allowed files old new → IsCutShort gives is_c form options search allowed names old new
 

@@ -1,5 +1,5 @@
 -- What is told line by line, one text's lines as soon as they are made. This project's own program.
-use Rattle.std.specs.Io.KnownBytes.{Appends}
+use Rattle.flt_door.specs.Lines.{Shows}
 use Rattle.std.specs.Prelude.{◌≡◌, ℕ, List, ◌++◌, Option, None, max, take}
 use Rattle.flt_explain_texts.specs.declared.sources.Printout.{Printout}
 use Rattle.flt_explain_texts.specs.declared.sources.Source.{Source}
@@ -17,7 +17,7 @@ pub record IsTextMore (style : Style) (options : WarningOptions) (s : Source) (b
   pub is : IsPart style options no_run s part own
   pub output : after.output.items ≡ before.output.items ++ part
   pub status : after.status ≡ max before.status own
-  pub sent : Appends old new part
+  pub sent : Shows old new part
 
 -- what went out is all that is told of the first so many texts
 pub record AreFirstLines (style : Style) (options : WarningOptions) (sources : List Source) (old new : Option Text) : Type 0 where
@@ -25,4 +25,4 @@ pub record AreFirstLines (style : Style) (options : WarningOptions) (sources : L
   pub printed : List ℕ
   pub status : ℕ
   pub are : AreLines style options (take count sources) None printed status
-  pub sent : Appends old new printed
+  pub sent : Shows old new printed

@@ -1,17 +1,18 @@
 //! The output of `explain` for some texts, after the drifts of C files.
 
-ghost use Rattle.std.specs.Io.KnownBytes.{Appends};
+ghost use Rattle.flt_door.specs.Lines.{Shows};
 ghost use Rattle.std.specs.Prelude.{◌≡◌, ◌≢◌, IfErr, IfOk, IsTrue, OnOk, false, option_map, take};
 ghost use Rattle.flt_commands_explain.specs.Explain as spec;
 
 use crate::drifts::tell_drifts;
 use crate::explain::{ExplainOptions, told};
 use crate::fault::CommandFault;
+use flt_door::put_let_out;
 use flt_explain_parts::{DriftedFile, drift_status};
 use flt_explain_runs::{ExplainOutput, SearchWatch};
 use flt_explain_texts::{Printout, Source};
 use flt_files::UnreadFile;
-use flt_model::{Sink, put_all};
+use flt_model::Sink;
 use flt_words::Form;
 use std::alloc::{AllocError, Global};
 use std::cmp::max;
@@ -111,7 +112,7 @@ fn explain_early<O: Sink, W: SearchWatch>(
 ) -> Result<ExplainOutput, CommandFault>
     ensures told { IfOk result (spec.IsToldWith asked.entry.form (spec.look_of asked.entry)
         (option_map (λ name. name.now) asked.entry.journal) drifted.now sources.now unread.now) }
-    ensures sent { IfOk result (λ t. Appends (O.taken out.old) (O.taken out.new) (take t.sent t.explained.output.items)) }
+    ensures sent { IfOk result (λ t. Shows (O.taken out.old) (O.taken out.new) (take t.sent t.explained.output.items)) }
     ensures fine { OnOk result (O.failures out.new ≡ O.failures out.old) }
     ensures write { IfErr result (λ e. e ≡ CommandFault.Write → O.failures out.new ≢ O.failures out.old) }
     ensures memory { IfErr result (λ e. e ≡ CommandFault.OutOfMemory →
@@ -125,7 +126,7 @@ fn explain_early<O: Sink, W: SearchWatch>(
 {
     let first = first_drifts(alloc, asked.form, drifted)?;
     let worth = drift_status(asked.options.is_strict, drifted);
-    put_all(out, first.as_slice())?;
+    put_let_out(out, first.as_slice())?;
     let before = first.len();
     let own = told(alloc, asked, drifted, sources, unread, out, watch)?;
     let sent = before + own.sent.min(own.explained.output.len());
@@ -147,7 +148,7 @@ pub(crate) fn explain_after<O: Sink, W: SearchWatch>(
 ) -> Result<ExplainOutput, CommandFault>
     ensures told { IfOk result (spec.IsToldWith asked.entry.form (spec.look_of asked.entry)
         (option_map (λ name. name.now) asked.entry.journal) drifted.now sources.now unread.now) }
-    ensures sent { IfOk result (λ t. Appends (O.taken out.old) (O.taken out.new) (take t.sent t.explained.output.items)) }
+    ensures sent { IfOk result (λ t. Shows (O.taken out.old) (O.taken out.new) (take t.sent t.explained.output.items)) }
     ensures held { spec.HoldsBack asked.entry.form (option_map (λ name. name.now) asked.entry.journal) → out.new ≡ out.old }
     ensures fine { OnOk result (O.failures out.new ≡ O.failures out.old) }
     ensures write { IfErr result (λ e. e ≡ CommandFault.Write → O.failures out.new ≢ O.failures out.old) }

@@ -1,6 +1,6 @@
 //! The answer of `explain` to the names that it is given: reports of files, or pages.
 
-ghost use Rattle.std.specs.Io.KnownBytes.{Appends};
+ghost use Rattle.flt_door.specs.Lines.{Shows};
 ghost use Rattle.std.specs.Prelude.{◌≡◌, ◌≢◌, [], ◌∷◌, None, IfErr, IfOk, OnErr, OnOk, length, map, option_map, string_bytes, take};
 ghost use Rattle.flt_commands_explain.specs.Drifts.{drifts_told};
 ghost use Rattle.flt_commands_explain.specs.Explain as spec;
@@ -237,7 +237,7 @@ fn told_in_turn<O: Sink, W: SearchWatch>(
     ensures noted { IfOk result (λ t. spec.AreNotedFor asked.entry.search.is_stack asked.entry.form None (texts_of sources.now) t.noted) }
     ensures notes { IfOk result (spec.IsNoteTold asked.entry.form (texts_of sources.now) (spec.search_of asked.entry.search)) }
     ensures print { IfOk result (spec.IsPrintTold asked.entry.form (spec.look_of asked.entry) drifted.now sources.now) }
-    ensures sent { IfOk result (λ t. Appends (O.taken out.old) (O.taken out.new) (take t.sent t.explained.output.items)) }
+    ensures sent { IfOk result (λ t. Shows (O.taken out.old) (O.taken out.new) (take t.sent t.explained.output.items)) }
     ensures early { IfOk result (spec.GoesOutEarly asked.entry.form asked.entry.options sources.now (spec.search_of asked.entry.search)) }
     ensures cut { IfOk result (λ t.
         spec.IsCutIn asked.entry.form asked.entry.options
@@ -285,7 +285,7 @@ fn told_whole<O: Sink, W: SearchWatch>(
     ensures noted { IfOk result (λ t. AreNotes asked.entry.search.is_stack (texts_of sources.now) t.noted) }
     ensures notes { IfOk result (spec.IsNoteTold asked.entry.form (texts_of sources.now) (spec.search_of asked.entry.search)) }
     ensures print { IfOk result (spec.IsPrintTold asked.entry.form (spec.look_of asked.entry) drifted.now sources.now) }
-    ensures sent { IfOk result (λ t. Appends (O.taken out.old) (O.taken out.new) (take t.sent t.explained.output.items)) }
+    ensures sent { IfOk result (λ t. Shows (O.taken out.old) (O.taken out.new) (take t.sent t.explained.output.items)) }
     ensures held { out.new ≡ out.old }
     ensures err { IfErr result (λ e. e ≡ CommandFault.OutOfMemory) }
 {
@@ -321,7 +321,7 @@ pub(crate) fn told<O: Sink, W: SearchWatch>(
         (option_map (λ name. name.now) asked.entry.journal) (texts_of sources.now) t.noted) }
     ensures notes { IfOk result (spec.IsNoteTold asked.entry.form (texts_of sources.now) (spec.search_of asked.entry.search)) }
     ensures print { IfOk result (spec.IsPrintTold asked.entry.form (spec.look_of asked.entry) drifted.now sources.now) }
-    ensures sent { IfOk result (λ t. Appends (O.taken out.old) (O.taken out.new) (take t.sent t.explained.output.items)) }
+    ensures sent { IfOk result (λ t. Shows (O.taken out.old) (O.taken out.new) (take t.sent t.explained.output.items)) }
     ensures cut { IfOk result (λ t.
         spec.IsCutIn asked.entry.form asked.entry.options
         (spec.search_of asked.entry.search) sources.now (O.taken out.old) (O.taken out.new)) }
@@ -353,7 +353,7 @@ fn told_joined<'s, O: Sink, W: SearchWatch>(
         (map (λ name. name.now) asked.entry.allowed.now)
         (option_map (λ name. name.now) asked.entry.journal) (givens files.now) (refused_names files.now joined.now.refused.items)
         (bytes_in joined.now.texts.items) unread.now) }
-    ensures sent { IfOk result (λ t. Appends (O.taken out.old) (O.taken out.new) (take t.sent t.explained.output.items)) }
+    ensures sent { IfOk result (λ t. Shows (O.taken out.old) (O.taken out.new) (take t.sent t.explained.output.items)) }
     ensures held { spec.HoldsBack asked.entry.form (option_map (λ name. name.now) asked.entry.journal) → out.new ≡ out.old }
     ensures fine { OnOk result (O.failures out.new ≡ O.failures out.old) }
     ensures write { IfErr result (λ e. e ≡ CommandFault.Write → O.failures out.new ≢ O.failures out.old) }

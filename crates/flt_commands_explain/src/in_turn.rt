@@ -1,20 +1,20 @@
 //! Output line by line: the lines of each text are written as soon as they are made.
 
-ghost use Rattle.std.specs.Io.KnownBytes.{Appends};
+ghost use Rattle.flt_door.specs.Lines.{Shows};
 ghost use Rattle.std.specs.Prelude.{◌≡◌, ◌≢◌, IfErr, IfOk, None, OnOk};
 ghost use Rattle.flt_commands_explain.specs.InTurn as spec;
 ghost use Rattle.flt_explain_forms.specs.Lines.{AreLines};
 
 use crate::fault::CommandFault;
+use flt_door::put_let_out;
 use flt_explain_forms::{Style, lines};
+use flt_explain_parts::greater;
 use flt_explain_texts::{Printout, Source};
 use flt_explain_warning_details::WarningOptions;
-use flt_model::{Sink, put_all};
+use flt_model::Sink;
 use std::alloc::Global;
-use std::cmp::max;
 
 /// Writes the lines of one more text, and adds them to those of others.
-#[tactic(auto, using(crate::proofs::InTurn::text_more))]
 fn put_text<O: Sink>(
     alloc: Global,
     style: Style,
@@ -30,8 +30,8 @@ fn put_text<O: Sink>(
 {
     let one = lines(alloc, style, options, &[source], None)?;
     told.output.extend_from_slice(one.output.as_slice())?;
-    told.status = max(told.status, one.status);
-    put_all(out, one.output.as_slice())?;
+    told.status = greater(told.status, one.status);
+    put_let_out(out, one.output.as_slice())?;
     Ok(())
 }
 
@@ -45,7 +45,7 @@ pub(crate) fn lines_in_turn<O: Sink>(
     out: &mut O,
 ) -> Result<Printout, CommandFault>
     ensures told { IfOk result (λ e. AreLines style options sources.now None e.output.items e.status) }
-    ensures sent { IfOk result (λ e. Appends (O.taken out.old) (O.taken out.new) e.output.items) }
+    ensures sent { IfOk result (λ e. Shows (O.taken out.old) (O.taken out.new) e.output.items) }
     ensures fine { OnOk result (O.failures out.new ≡ O.failures out.old) }
     ensures write { IfErr result (λ e. e ≡ CommandFault.Write → O.failures out.new ≢ O.failures out.old) }
     ensures memory { IfErr result (λ e. e ≡ CommandFault.OutOfMemory →

@@ -3,7 +3,8 @@ use Rattle.std.proofs.Common.{inl, inr, ◌≡◌, ◌<◌, ◌≤◌, ◌-◌, 
 use Rattle.std.proofs.Common.{[], ◌∷◌, ◌++◌, Option, Some, None, refl, ap, sym, subst, max}
 use Rattle.std.proofs.Common.{arith, ◌∙◌, append_assoc, drop, take, get_or, length, length-append}
 use Rattle.std.specs.Prelude.{if◌then◌else◌}
-use Rattle.std.specs.Io.KnownBytes.{Appends}
+use Rattle.flt_door.proofs.Lines.{line_ends, shows_both, shows_nothing}
+use Rattle.flt_door.specs.Lines.{AreWholeLines, Shows}
 use Rattle.std.proofs.lemmas.Bool.{le-ltb}
 use Rattle.std.proofs.lemmas.List.{append-nil, length-map, take-append-drop, take_all}
 use Rattle.flt_places.specs.declared.files.Files.{Files}
@@ -118,18 +119,9 @@ report_more look trees files s behind old new part added is first bytes noted to
 
 -- ---- what is put out
 
--- nothing
-pub appends_none : (old : Option (List ℕ)) → Appends old old []
-appends_none None = tt
-appends_none (Some xs) = sym (append-nil xs)
-
 -- the rest behind the first
-pub appends_rest : (a b c : Option (List ℕ)) (xs ys rest : List ℕ) → Appends a b xs → Appends b c rest → ys ≡ xs ++ rest → Appends a c ys
-appends_rest None b c xs ys rest first second is = tt
-appends_rest (Some xa) None c xs ys rest first second is = absurd first
-appends_rest (Some xa) (Some bs) None xs ys rest first second is = absurd second
-appends_rest (Some xa) (Some bs) (Some cs) xs ys rest first second is =
-    second ∙ ap (λ z. z ++ rest) first ∙ append_assoc xa xs rest ∙ ap (λ z. xa ++ z) (sym is)
+pub shows_rest : (a b c : Option (List ℕ)) (xs ys rest : List ℕ) → Shows a b xs → Shows b c rest → ys ≡ xs ++ rest → Shows a c ys
+shows_rest a b c xs ys rest first second is = subst (Shows a c) (sym is) (shows_both a b c xs rest first second)
 
 drop_first : (xs rest : List ℕ) → drop (length xs) (xs ++ rest) ≡ rest
 drop_first [] rest = refl
@@ -139,15 +131,24 @@ take_first : (xs rest : List ℕ) → take (length xs) (xs ++ rest) ≡ xs
 take_first [] rest = refl
 take_first (x ∷ xs) rest = ap (λ z. x ∷ z) (take_first xs rest)
 
+-- what isn't put out yet is whole lines: a report, and an empty line
+pub rest_lines : (before report added all : List ℕ) (sent : ℕ) → added ≡ before ++ report → all ≡ added ++ 10 ∷ [] →
+    sent ≡ length before → AreWholeLines (drop sent all)
+rest_lines before report added all sent first is whole =
+    let rest : drop sent all ≡ report ++ 10 ∷ [] =
+    ap (drop sent) (is ∙ ap (λ z. z ++ 10 ∷ []) first ∙ append_assoc before report (10 ∷ []))
+    ∙ ap (λ n. drop n (before ++ (report ++ 10 ∷ []))) whole ∙ drop_first before (report ++ 10 ∷ []) in
+    subst AreWholeLines (sym rest) (line_ends report)
+
 -- what isn't put out yet is what is more
 pub rest_out : (look : Look) (trees : List Tree) (files : List Files) (s : StudiedText) (behind : List ℕ) (old new : PrintedTexts)
     (a b c : Option (List ℕ)) → IsMore look trees files s behind old new →
-    old.sent ≡ length old.bytes.items → Appends a b old.bytes.items → Appends b c (drop old.sent new.bytes.items) →
-    Appends a c new.bytes.items
+    old.sent ≡ length old.bytes.items → Shows a b old.bytes.items → Shows b c (drop old.sent new.bytes.items) →
+    Shows a c new.bytes.items
 rest_out look trees files s behind old new a b c more all first second =
     let rest : drop old.sent new.bytes.items ≡ report_bytes more.part ++ behind =
     rw (all, more.bytes) (drop_first old.bytes.items (report_bytes more.part ++ behind)) in
-    appends_rest a b c old.bytes.items new.bytes.items (report_bytes more.part ++ behind) first (subst (λ z. Appends b c z) rest second)
+    shows_rest a b c old.bytes.items new.bytes.items (report_bytes more.part ++ behind) first (subst (λ z. Shows b c z) rest second)
     more.bytes
 
 -- whole reports of the first of some texts
@@ -171,12 +172,12 @@ first_of look trees files each further p are parsed = record {
 pub cut_none : (options : WarningOptions) (sources : List Source) (search : RunSearch) (old : Option (List ℕ)) →
     IsCut options sources search old
     old
-cut_none options sources search old = record { printed = []; added = appends_none old; are = inl refl }
+cut_none options sources search old = record { printed = []; added = shows_nothing old; are = inl refl }
 
 pub cut_at : (look : Look) (trees : List Tree) (files : List Files) (all each rest : List StudiedText) (p : PrintedTexts) (held : Bool)
     (old new : Option (List ℕ)) →
     AreParsed (texts_read all) (filters_of trees) → all ≡ each ++ rest → ArePrinted look trees files each p → (held ≡ true → new ≡ old) →
-    (held ≡ false → Appends old new p.bytes.items) → IsCut look.options (sources_read all) look.search old new
+    (held ≡ false → Shows old new p.bytes.items) → IsCut look.options (sources_read all) look.search old new
 cut_at look trees files all each rest p true old new parsed is are none some =
     rw (none refl) (cut_none look.options (sources_read all) look.search old)
 cut_at look trees files all each rest p false old new parsed is are none some =
@@ -205,12 +206,12 @@ put_out : (look : Look) (trees : List Tree) (files : List Files) (all each : Lis
     (old new : PrintedTexts) (held : Bool) (a b : Option (List ℕ)) →
     AreParsed (texts_read all) (filters_of trees) → all ≡ each ++ s ∷ [] → ArePrinted look trees files each old →
     IsMore look trees files s behind old new → new.sent ≡ old.sent → HoldsBack held old → (held ≡ true → b ≡ a) →
-    (held ≡ false → Appends a b old.bytes.items) → IsPutOut look.options (sources_read all) look.search held a b new
+    (held ≡ false → Shows a b old.bytes.items) → IsPutOut look.options (sources_read all) look.search held a b new
 put_out look trees files all each s behind old new true a b parsed is are more kept holds none some =
     let sent : new.sent ≡ 0 = kept ∙ holds.none refl in
     record {
       within = rw sent (omega arith);
-      added = rw (sent, none refl) (appends_none a);
+      added = rw (sent, none refl) (shows_nothing a);
       early = λ h. absurd (cc h);
       late = λ h. sent;
     }
@@ -233,7 +234,7 @@ put_out look trees files all each s behind old new false a b parsed is are more 
 pub cut_here : (look : Look) (trees : List Tree) (files : List Files) (each : List StudiedText) (n i : ℕ) (p : PrintedTexts) (held : Bool)
     (old new : Option (List ℕ)) →
     AreParsed (texts_read each) (filters_of trees) → ArePrinted look trees files (take i (take n each)) p → (held ≡ true → new ≡ old) →
-    (held ≡ false → Appends old new p.bytes.items) →
+    (held ≡ false → Shows old new p.bytes.items) →
     IsCut look.options (sources_read each) look.search old new
 cut_here look trees files each n i p held old new parsed are none some =
     let before = take n each in
@@ -381,7 +382,7 @@ module _ (look : Look) (trees : List Tree) (files : List Files) (each : List Stu
           })
 
   pub all_sent : (held : Bool) (a b : Option (List ℕ)) → AreParsed (texts_read each) (filters_of trees) → new.sent ≡ old.sent →
-      HoldsBack held old → (held ≡ true → b ≡ a) → (held ≡ false → Appends a b old.bytes.items) →
+      HoldsBack held old → (held ≡ true → b ≡ a) → (held ≡ false → Shows a b old.bytes.items) →
       IsPutOut look.options (sources_read each) look.search held a b new
   all_sent held a b parsed kept holds none out =
       put_out look trees files each (take (length each - 1) each) last

@@ -1,6 +1,6 @@
 -- Reports and notes, put together. This project's own program.
 use Rattle.std.specs.Prelude.{◌≡◌, ◌≤◌, ℕ, true, false, Bool, List, ◌++◌, Option, flat_map, length, take}
-use Rattle.std.specs.Io.KnownBytes.{Appends}
+use Rattle.flt_door.specs.Lines.{Shows}
 use Rattle.flt_tree.specs.declared.filter.Filter.{Filter}
 use Rattle.flt_tree.specs.declared.tree.Tree.{Tree}
 use Rattle.flt_model.specs.Program.{filters_of}
@@ -143,6 +143,6 @@ pub record HoldsBack (is_held : Bool) (p : PrintedTexts) : Type 0 where
 pub record IsPutOut (options : WarningOptions) (sources : List Source) (search : RunSearch) (is_held : Bool) (old new : Option (List ℕ))
     (p : PrintedTexts) : Type 0 where
   pub within : p.sent ≤ length p.bytes.items
-  pub added : Appends old new (take p.sent p.bytes.items)
+  pub added : Shows old new (take p.sent p.bytes.items)
   pub early : is_held ≡ false → IsAllButLast options sources search (take p.sent p.bytes.items)
   pub late : is_held ≡ true → p.sent ≡ 0

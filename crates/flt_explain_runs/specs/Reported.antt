@@ -1,6 +1,6 @@
 -- What is reported of files: of texts, and of certificates, journals and scripts. This project's own program.
 use Rattle.std.specs.Prelude.{◌≡◌, ◌⊎◌, ℕ, ◌+◌, List, [], ◌∷◌, ◌++◌, Option, Some, None, length, max}
-use Rattle.std.specs.Io.KnownBytes.{Appends}
+use Rattle.flt_door.specs.Lines.{Shows}
 use Rattle.flt_stack_script.specs.ScriptText.{Stack}
 use Rattle.flt_tree.specs.Names.{Text}
 use Rattle.flt_tree.specs.declared.filter.Filter.{Filter}
@@ -150,7 +150,7 @@ AreWhole options sources search printed = (printed ≡ []) ⊎ IsBegun options s
 -- the same of what is put out
 pub record IsCut (options : WarningOptions) (sources : List Source) (search : RunSearch) (old new : Option (List ℕ)) : Type 0 where
   pub printed : List ℕ
-  pub added : Appends old new printed
+  pub added : Shows old new printed
   pub are : AreWhole options sources search printed
 
 -- the reports of all files but the last

@@ -1,7 +1,7 @@
 //! Reports on some texts, with the outcomes of their findings in runs.
 
 ghost use Rattle.std.specs.Prelude.{◌≡◌, ◌≢◌, ◌≤◌, ◌++◌, true, false, IfOk, IfErr, OnOk, length, take};
-ghost use Rattle.std.specs.Io.KnownBytes.{Appends};
+ghost use Rattle.flt_door.specs.Lines.{Shows};
 ghost use Rattle.flt_explain_texts.specs.Reports.{texts_of};
 ghost use Rattle.flt_explain_outcomes.specs.Noted.{AreNotes};
 ghost use Rattle.flt_explain_outcomes.specs.Readings.{files_by, files_read};
@@ -115,7 +115,7 @@ pub fn explain<O: Sink, W: SearchWatch>(
     ensures said { IfOk result (λ t. Tells (texts_of sources.now) asking.search t.noted t.explained.output.items) }
     ensures print { IfOk result (λ t. IsPrint (look_for asking) sources.now t.noted t.explained.output.items t.explained.status) }
     ensures within { IfOk result (λ t. t.sent ≤ length t.explained.output.items) }
-    ensures sent { IfOk result (λ t. Appends (O.taken out.old) (O.taken out.new) (take t.sent t.explained.output.items)) }
+    ensures sent { IfOk result (λ t. Shows (O.taken out.old) (O.taken out.new) (take t.sent t.explained.output.items)) }
     ensures early { IfOk result (λ t. asking.is_held ≡ false →
         spec.IsAllButLast asking.options sources.now asking.search (take t.sent t.explained.output.items)) }
     ensures late { IfOk result (λ t. asking.is_held ≡ true → t.sent ≡ 0) }

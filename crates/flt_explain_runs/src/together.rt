@@ -1,7 +1,7 @@
 //! The reports of several texts, each put out as soon as it is whole.
 
 ghost use Rattle.std.specs.Prelude.{◌≡◌, ◌≢◌, ◌≤◌, true, false, ◌++◌, ◌∷◌, [], IfOk, IfErr, OnOk, drop, length};
-ghost use Rattle.std.specs.Io.KnownBytes.{Appends};
+ghost use Rattle.flt_door.specs.Lines.{AreWholeLines, Shows};
 ghost use Rattle.flt_model.specs.Program.{filters_of};
 ghost use Rattle.flt_explain_runs.specs.Parts.{notes_in, report_bytes};
 ghost use Rattle.flt_explain_runs.specs.Printing.{HoldsBack, IsMore, IsPutOut, look_of};
@@ -17,8 +17,9 @@ use crate::fault::ExplainFault;
 use crate::parts::{Body, TextReport, write};
 use crate::printing::Printer;
 use crate::totals::{Summary, Total};
+use flt_door::put_let_out;
 use flt_explain_outcomes::{Note, StudiedText};
-use flt_model::{Sink, put_all};
+use flt_model::Sink;
 use flt_search::SearchWatch;
 use sqlite_items::Items;
 use std::alloc::{AllocError, Global};
@@ -92,18 +93,19 @@ impl PrintedTexts {
         self.bytes.extend_from_slice(line.as_bytes())
     }
 
-    /// Puts out the bytes that aren't put out yet.
+    /// Puts out the bytes that aren't put out yet, which are whole lines.
     fn send<O: Sink>(&mut self, out: &mut O) -> Result<(), ExplainFault>
         requires within { self.old.sent ≤ length self.old.bytes.items }
+        requires lines { AreWholeLines (drop self.old.sent self.old.bytes.items) }
         ensures bytes { self.new.bytes ≡ self.old.bytes }
         ensures noted { self.new.noted ≡ self.old.noted }
         ensures total { self.new.total ≡ self.old.total }
         ensures all { OnOk result (self.new.sent ≡ length self.new.bytes.items) }
-        ensures added { OnOk result (Appends (O.taken out.old) (O.taken out.new) (drop self.old.sent self.old.bytes.items)) }
+        ensures added { OnOk result (Shows (O.taken out.old) (O.taken out.new) (drop self.old.sent self.old.bytes.items)) }
         ensures fine { OnOk result (O.failures out.new ≡ O.failures out.old) }
         ensures write { IfErr result (λ e. (e ≡ ExplainFault.Write) × (O.failures out.new ≢ O.failures out.old)) }
     {
-        put_all(out, &self.bytes[self.sent..])?;
+        put_let_out(out, &self.bytes[self.sent..])?;
         self.sent = self.bytes.len();
         Ok(())
     }
@@ -126,7 +128,7 @@ impl Printer<'_> {
             printed.new) }
         ensures sent { OnOk result (HoldsBack is_held printed.new) }
         ensures out { OnOk result (is_held ≡ false →
-            Appends (O.taken out.old) (O.taken out.new) (drop printed.old.sent printed.new.bytes.items)) }
+            Shows (O.taken out.old) (O.taken out.new) (drop printed.old.sent printed.new.bytes.items)) }
         ensures held { is_held ≡ true → out.new ≡ out.old }
         ensures fine { OnOk result (O.failures out.new ≡ O.failures out.old) }
         ensures write { IfErr result (λ e. e ≡ ExplainFault.Write → O.failures out.new ≢ O.failures out.old) }

@@ -2,6 +2,7 @@ pub mod Attempts
 pub mod Deeds
 pub mod Failure
 pub mod Flaws
+pub mod Folders
 pub mod Inputs
 pub mod Names
 pub mod Split

@@ -6,6 +6,8 @@ mod contents;
 mod deeds;
 mod failure;
 mod flaws;
+mod folders;
+mod host_folders;
 mod host_system;
 mod inputs;
 mod kept;
@@ -22,6 +24,8 @@ pub use contents::Contents;
 pub use deeds::{Act, Deed, Deeds, Fate};
 pub use failure::Failure;
 pub use flaws::{FilePlace, flaw_line};
+pub use folders::{Folders, PathKind};
+pub use host_folders::HostFolders;
 pub use host_system::{BarredFile, BoundedFile, CountedReader, HostSystem};
 pub use inputs::{
     Inputs, MAX_INPUT, Pictures, ReadFiles, is_standard, read_all, read_each, read_pieces_within,

@@ -1,5 +1,5 @@
 -- What is asked of the program. This project's own program.
-use Rattle.std.specs.Prelude.{ℕ, List, Bool, Option, Some, None, option_map, map}
+use Rattle.std.specs.Prelude.{ℕ, List, [], Bool, Option, Some, None, option_map, map}
 use Rattle.clap.specs.Walk.{Text}
 use Rattle.flt_words.specs.declared.request.Colour.{Colour}
 use Rattle.flt_words.specs.declared.request.Form.{Form}
@@ -57,3 +57,14 @@ asked_of (request.Emit part file cert) = Some (Emit part file.now (option_map (�
 asked_of (request.EmitInto folder is_forced file cert) =
     Some (EmitInto folder.now is_forced file.now (option_map (λ name. name.now) cert))
 asked_of (request.Compare files) = Some (Compare (map (λ name. name.now) files.items))
+
+-- the files of which `explain` reports
+abbrev pub explained_files : Option Asked → List Text
+explained_files (Some (Explain form colour search journal warnings is_c files)) = files
+explained_files request = []
+
+-- the same request, with these files where it is one of `explain` for files
+abbrev pub with_files : List Text → Option Asked → Option Asked
+with_files files (Some (Explain form colour search journal warnings is_c given)) =
+    Some (Explain form colour search journal warnings is_c files)
+with_files files request = request

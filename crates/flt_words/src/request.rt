@@ -1,5 +1,8 @@
 //! The request that the words of a command line make.
 
+ghost use Rattle.std.specs.Prelude.{◌≡◌, map};
+ghost use Rattle.flt_words.specs.Request as spec;
+
 use crate::workers::Workers;
 
 /// The form of a report of findings.
@@ -160,4 +163,42 @@ pub enum Request<'a> {
     Compare {
         files: Vec<&'a str>,
     },
+}
+
+impl<'a> Request<'a> {
+    /// The files of which `explain` reports; none for every other request.
+    pub fn explained_files(&self) -> &[&'a str]
+        ensures { map (λ name. name.now) result.now ≡ spec.explained_files (spec.asked_of self.now) }
+    {
+        match self {
+            Request::Explain { files, .. } => files.as_slice(),
+            _ => &[],
+        }
+    }
+
+    /// The same request, with these files if it is a request of `explain` for files.
+    pub fn with_files(self, files: Vec<&'a str>) -> Request<'a>
+        ensures { spec.asked_of result ≡ spec.with_files (map (λ name. name.now) files.entry.items) (spec.asked_of self.entry) }
+    {
+        match self {
+            Request::Explain {
+                form,
+                colour,
+                search,
+                journal,
+                warnings,
+                is_c,
+                ..
+            } => Request::Explain {
+                form,
+                colour,
+                search,
+                journal,
+                warnings,
+                is_c,
+                files,
+            },
+            other => other,
+        }
+    }
 }

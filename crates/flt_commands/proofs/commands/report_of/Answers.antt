@@ -1,7 +1,7 @@
-use Rattle.std.proofs.Common.{◌≡◌, ap, map, option_map, refl}
+use Rattle.std.proofs.Common.{◌≡◌, ap, map, option_map, refl, sym}
 use Rattle.flt_commands.proofs.Reported.{answers_asked, answers_of, before_shown, cut_asked, held_asked, kept_shown, never_quiet}
 use Rattle.flt_commands.proofs.Reported.{quiet_asked, quiet_shown, remarked_after, says_of_pages, those_after, those_of}
-use Rattle.flt_words.specs.Request.{Check, Analyse, Thin, Run, Replay, Show, Extract, Pages, Emit, EmitInto, Compare, Serve, choice_of}
+use Rattle.flt_words.specs.Request.{Check, Analyse, Thin, Run, Replay, Show, Extract, Pages, Emit, EmitInto, Compare, Serve, asked_of, choice_of}
 use Rattle.flt_files.specs.Attempts.{Does}
 use Rattle.flt_commands.proofs.commands.report_of.Goals as goal
 
@@ -13,7 +13,7 @@ returns-in-Check-clause-answers g c =
     (g.P.Pictures.done c.args.pictures.now) in
     answers_of c.covered_texts_break_nothing.ensures c.driven_texts_break_nothing.ensures
     c.fails_exactly_where_nothing_is_spelled.ensures.nowhere _ _ _ does _ request _ _ _
-    (rw c.in-Check.is at c.in_ok-text.ensures) (c.check_files-said.result, c.of_text.ensures, rw c.last_of.ensures at c.check_files-said.ensures) refl
+    (ap asked_of (sym c.in-Check.is)) (c.check_files-said.result, c.of_text.ensures, rw c.last_of.ensures at c.check_files-said.ensures) refl
     (those_of _ _ c.report_on.ensures.texts) c.report_on.ensures.codes
     c.report_on.ensures.reported (remarked_after request _ _ _ c.new.ensures.items c.report_on.ensures.remarked)
 
@@ -25,7 +25,7 @@ returns-in-Analyse-clause-answers g c =
     (g.P.Pictures.done c.args.pictures.now) in
     answers_of c.covered_texts_break_nothing.ensures c.driven_texts_break_nothing.ensures
     c.fails_exactly_where_nothing_is_spelled.ensures.nowhere _ _ _ does _ request _ _ _
-    (rw c.in-Analyse.is at c.in_ok-text.ensures)
+    (ap asked_of (sym c.in-Analyse.is))
     (c.analyse_file-said.result, c.of_text-in-Analyse.ensures, c.analyse_file-said.ensures) refl
     (those_of _ _ c.report_on-in-Analyse.ensures.texts) c.report_on-in-Analyse.ensures.codes
     c.report_on-in-Analyse.ensures.reported
@@ -39,7 +39,7 @@ returns-in-Thin-clause-answers g c =
     (g.P.Pictures.done c.args.pictures.now) in
     answers_of c.covered_texts_break_nothing.ensures c.driven_texts_break_nothing.ensures
     c.fails_exactly_where_nothing_is_spelled.ensures.nowhere _ _ _ does _ request _ _ _
-    (rw c.in-Thin.is at c.in_ok-text.ensures)
+    (ap asked_of (sym c.in-Thin.is))
     (c.thin_files-said.result, c.of_text-in-Thin.ensures, rw c.last_of-in-Thin.ensures at c.thin_files-said.ensures) refl
     (those_of _ _ c.report_on-in-Thin.ensures.texts) c.report_on-in-Thin.ensures.codes
     c.report_on-in-Thin.ensures.reported (remarked_after request _ _ _ c.new-in-Thin.ensures.items c.report_on-in-Thin.ensures.remarked)
@@ -53,7 +53,7 @@ returns-in-Run-default-true-default-default-clause-answers g c =
     (g.P.Pictures.done c.args.pictures.now) in
     answers_of c.covered_texts_break_nothing.ensures c.driven_texts_break_nothing.ensures
     c.fails_exactly_where_nothing_is_spelled.ensures.nowhere _ _ _ does _ request _ _
-    _ (rw c.in-Run-default-true-default-default.is at c.in_ok-text.ensures)
+    _ (ap asked_of (sym c.in-Run-default-true-default-default.is))
     (c.run_files-said.result, c.of_run.ensures, rw c.as_slice-files.ensures.value at c.run_files-said.ensures) refl
     (those_of _ _ c.report_on-in-Run-default-true-default-default.ensures.texts)
     c.report_on-in-Run-default-true-default-default.ensures.codes
@@ -68,7 +68,7 @@ returns-in_ok-tell_deadlock-in-Run-clause-answers g c =
     (g.P.Pictures.done c.args.pictures.now) in
     answers_of c.covered_texts_break_nothing.ensures c.driven_texts_break_nothing.ensures
     c.fails_exactly_where_nothing_is_spelled.ensures.nowhere _ _ _ does _ request _ _
-    _ (rw c.in-Run.is at c.in_ok-text.ensures)
+    _ (ap asked_of (sym c.in-Run.is))
     (c.run_files-said-in-Run.result, c.of_run-in-Run.ensures, rw c.as_slice.ensures.value at c.run_files-said-in-Run.ensures) refl
     (those_of _ _ c.report_on-in-Run.ensures.texts) c.report_on-in-Run.ensures.codes c.report_on-in-Run.ensures.reported
     (remarked_after request _ _ _ c.new-in-Run.ensures.items c.report_on-in-Run.ensures.remarked)
@@ -82,7 +82,7 @@ returns-in-Replay-clause-answers g c =
     (g.P.Pictures.done c.args.pictures.now) in
     answers_of c.covered_texts_break_nothing.ensures c.driven_texts_break_nothing.ensures
     c.fails_exactly_where_nothing_is_spelled.ensures.nowhere _ _ _ does _ request _ _
-    _ (rw c.in-Replay.is at c.in_ok-text.ensures) (c.replay_files-said.result, c.of_run-in-Replay.ensures, said.1) refl
+    _ (ap asked_of (sym c.in-Replay.is)) (c.replay_files-said.result, c.of_run-in-Replay.ensures, said.1) refl
     (those_after _ _ _ c.replay_files-said.result _ _ c.of_run-in-Replay.ensures c.report_on-in-Replay.ensures.texts
     c.report_on-in-Replay.ensures.journal said.2)
     c.report_on-in-Replay.ensures.codes c.report_on-in-Replay.ensures.reported
@@ -98,7 +98,7 @@ returns-in_ok-before-in-Show-clause-answers g c =
     (g.P.Pictures.done c.show_files-said.new.pictures) in
     answers_of c.covered_texts_break_nothing.ensures c.driven_texts_break_nothing.ensures
     c.fails_exactly_where_nothing_is_spelled.ensures.nowhere _ _ _ does _ request _ _
-    _ (rw c.in-Show.is at c.in_ok-text.ensures) (c.show_files-said.result, c.of_run-in-Show.ensures, said.1)
+    _ (ap asked_of (sym c.in-Show.is)) (c.show_files-said.result, c.of_run-in-Show.ensures, said.1)
     (kept_shown (g.P.Pictures.written c.show_files-said.new.pictures) does c.in-Show.timeline
     (option_map (λ name. name.now) c.in-Show.picture) c.in-Show.journal.now (map (λ name. name.now) c.in-Show.files.items) said.0 _
     c.show_files-said.result _ c.of_run-in-Show.ensures c.show_files-said.ensures.drawn)
@@ -122,7 +122,7 @@ returns-in-Extract-clause-answers g c =
     (g.P.Pictures.done c.args.pictures.now) in
     answers_of c.covered_texts_break_nothing.ensures c.driven_texts_break_nothing.ensures
     c.fails_exactly_where_nothing_is_spelled.ensures.nowhere _ _ _ does _ request _ _ _
-    (rw c.in-Extract.is at c.in_ok-text.ensures)
+    (ap asked_of (sym c.in-Extract.is))
     (c.extract_files-said.result, c.of_text-in-Extract.ensures, rw c.as_slice-in-Extract.ensures.value at c.extract_files-said.ensures) refl
     (those_of _ _ c.report_on-in-Extract.ensures.texts) c.report_on-in-Extract.ensures.codes c.report_on-in-Extract.ensures.reported
     (remarked_after request _ _ _ c.new-in-Extract.ensures.items c.report_on-in-Extract.ensures.remarked)
@@ -135,7 +135,7 @@ returns-in-Pages-clause-answers g c =
     (g.P.Pictures.done c.args.pictures.now) in
     answers_of c.covered_texts_break_nothing.ensures c.driven_texts_break_nothing.ensures
     c.fails_exactly_where_nothing_is_spelled.ensures.nowhere _ _ _ does _ request _ _ _
-    (rw c.in-Pages.is at c.in_ok-text.ensures) (
+    (ap asked_of (sym c.in-Pages.is)) (
       c.pages_of-said.result,
       c.of_explain.ensures,
       says_of_pages _ _ _ _ (ap (map (λ t. t.items)) c.new-contents.ensures.texts)
@@ -152,7 +152,7 @@ returns-in-Emit-clause-answers g c =
     (g.P.Pictures.done c.args.pictures.now) in
     answers_of c.covered_texts_break_nothing.ensures c.driven_texts_break_nothing.ensures
     c.fails_exactly_where_nothing_is_spelled.ensures.nowhere _ _ _ does _ request _ _ _
-    (rw c.in-Emit.is at c.in_ok-text.ensures)
+    (ap asked_of (sym c.in-Emit.is))
     (c.emit_files-said.result, c.of_text-in-Emit.ensures, c.emit_files-said.ensures) refl (those_of _ _ c.report_on-in-Emit.ensures.texts)
     c.report_on-in-Emit.ensures.codes
     c.report_on-in-Emit.ensures.reported (remarked_after request _ _ _ c.new-in-Emit.ensures.items c.report_on-in-Emit.ensures.remarked)
@@ -165,7 +165,7 @@ returns-in_ok-before-in-EmitInto-clause-answers g c =
     (g.P.Pictures.done c.emit_files_into-said.new.pictures) in
     answers_of c.covered_texts_break_nothing.ensures c.driven_texts_break_nothing.ensures
     c.fails_exactly_where_nothing_is_spelled.ensures.nowhere _ _ _ does _ request _ _ _
-    (rw c.in-EmitInto.is at c.in_ok-text.ensures)
+    (ap asked_of (sym c.in-EmitInto.is))
     (c.emit_files_into-said.result, c.of_text-in-EmitInto.ensures, c.emit_files_into-said.ensures.said)
     (c.emit_files_into-said.result, c.of_text-in-EmitInto.ensures, c.emit_files_into-said.ensures.put)
     (those_of _ _ c.report_on-in-EmitInto.ensures.texts) c.report_on-in-EmitInto.ensures.codes c.report_on-in-EmitInto.ensures.reported
@@ -175,7 +175,7 @@ returns-in_ok-before-in-EmitInto-clause-answers g c =
 
 pub returns-in_ok-before-in-EmitInto-clause-quiet : goal.returns-in_ok-before-in-EmitInto-clause-quiet
 returns-in_ok-before-in-EmitInto-clause-quiet g c =
-    never_quiet _ _ _ _ _ (rw c.in-EmitInto.is at c.in_ok-text.ensures) _
+    never_quiet _ _ _ _ _ (ap asked_of (sym c.in-EmitInto.is)) _
 
 pub returns-in-Serve-clause-answers : goal.returns-in-Serve-clause-answers
 returns-in-Serve-clause-answers g c =
@@ -184,35 +184,35 @@ returns-in-Serve-clause-answers g c =
     (g.P.Pictures.done c.args.pictures.now) in
     answers_of c.covered_texts_break_nothing.ensures c.driven_texts_break_nothing.ensures
     c.fails_exactly_where_nothing_is_spelled.ensures.nowhere _ _ _ does _ Serve _ c.unserved.result _
-    (rw c.in-Serve.is at c.in_ok-text.ensures) c.unserved.ensures refl
+    (ap asked_of (sym c.in-Serve.is)) c.unserved.ensures refl
     (those_of _ _ c.report_on-in-Serve.ensures.texts) c.report_on-in-Serve.ensures.codes c.report_on-in-Serve.ensures.reported
     (remarked_after Serve _ _ _ c.new-in-Serve.ensures.items c.report_on-in-Serve.ensures.remarked)
 
 pub returns-in-Explain-clause-answers : goal.returns-in-Explain-clause-answers
 returns-in-Explain-clause-answers g c =
-    answers_asked _ _ (rw c.in-Explain.is at c.in_ok-text.ensures) c.args.coloured _ _ _ _
+    answers_asked _ _ (ap asked_of (sym c.in-Explain.is)) c.args.coloured _ _ _ _
     (rw c.as_slice-files-in-Explain.ensures.value at (c.report_on_files.ensures.answered c.in-Explain.colour c.args.coloured
     (choice_of c.in-Explain.warnings) c.is_coloured.ensures c.options_of.ensures
     (rw c.as_slice-in-Explain.ensures.value refl)))
 
 pub returns-in-Explain-clause-quiet : goal.returns-in-Explain-clause-quiet
 returns-in-Explain-clause-quiet g c =
-    quiet_asked _ _ (rw c.in-Explain.is at c.in_ok-text.ensures) _
+    quiet_asked _ _ (ap asked_of (sym c.in-Explain.is)) _
     (rw c.as_slice-files-in-Explain.ensures.value at
     (c.report_on_files.ensures.quiet c.in-Explain.colour (choice_of c.in-Explain.warnings)))
 
 pub returns-in-Explain-clause-memory : goal.returns-in-Explain-clause-memory
 returns-in-Explain-clause-memory g c =
-    cut_asked _ _ (rw c.in-Explain.is at c.in_ok-text.ensures) _ _ _ _
+    cut_asked _ _ (ap asked_of (sym c.in-Explain.is)) _ _ _ _
     (rw (c.as_slice-files-in-Explain.ensures.value, c.as_slice-in-Explain.ensures.value, c.options_of.ensures)
     at c.report_on_files.ensures.memory)
 
 pub returns-in-Explain-clause-held : goal.returns-in-Explain-clause-held
-returns-in-Explain-clause-held g c = held_asked _ _ (rw c.in-Explain.is at c.in_ok-text.ensures) _ _ c.report_on_files.ensures.held
+returns-in-Explain-clause-held g c = held_asked _ _ (ap asked_of (sym c.in-Explain.is)) _ _ c.report_on_files.ensures.held
 
 pub returns-in-Format-clause-answers : goal.returns-in-Format-clause-answers
 returns-in-Format-clause-answers g c =
-    answers_asked _ _ (rw c.in-Format.is at c.in_ok-text.ensures) c.args.coloured _ _ _ _
+    answers_asked _ _ (ap asked_of (sym c.in-Format.is)) c.args.coloured _ _ _ _
     (rw c.as_slice-files-in-Format.ensures.value at (c.report_on_layouts.ensures.answered c.args.coloured))
 
 pub returns-in-Compare-clause-answers : goal.returns-in-Compare-clause-answers
@@ -223,7 +223,7 @@ returns-in-Compare-clause-answers g c =
     (g.P.Pictures.done c.args.pictures.now) in
     answers_of c.covered_texts_break_nothing.ensures c.driven_texts_break_nothing.ensures
     c.fails_exactly_where_nothing_is_spelled.ensures.nowhere _ _ _ does _ request _ _ _
-    (rw c.in-Compare.is at c.in_ok-text.ensures)
+    (ap asked_of (sym c.in-Compare.is))
     (c.compare_files-said.result, c.of_text-in-Compare.ensures, rw c.as_slice-in-Compare.ensures.value at c.compare_files-said.ensures)
     refl
     (those_of _ _ c.report_on-in-Compare.ensures.texts) c.report_on-in-Compare.ensures.codes c.report_on-in-Compare.ensures.reported

@@ -1,5 +1,4 @@
 use Rattle.std.proofs.Common.{◌↔◌, IfSome, IsTrue, None, Option, Some, refl, true}
-use Rattle.flt_commands.specs.Folders.{none}
 use Rattle.flt_commands.proofs.host.run.Goals as goal
 
 -- a server ends only where the words ask for one
@@ -9,8 +8,6 @@ asked_for P None asks = tt
 
 pub returns-in-Ok-true-clause-asked : goal.returns-in-Ok-true-clause-asked
 returns-in-Ok-true-clause-asked g c =
-    asked_for _ _
-    (rw c.as_slice.ensures.value at (rw c.in-Ok-true.field-0-test at (rw c.in-Ok-true.is at c.ask_to_serve.ensures)))
-
-pub returns-in_default-clause-expanded : goal.returns-in_default-clause-expanded
-returns-in_default-clause-expanded g c = rw (c.new.ensures.items, c.new-in_default.ensures.items) none
+    rw c.not_executed-execution.ensures.words
+    (asked_for _ c.serve_streams-served.result
+    (rw c.as_slice.ensures.value at (rw c.in-Ok-true.field-0-test at c.in-Ok-true.ensures)))

@@ -1,7 +1,6 @@
 use Rattle.std.proofs.Common.{◌≡◌}
-use Rattle.flt_commands.proofs.OneAnswer.{printed_once, said_once}
+use Rattle.flt_commands.proofs.OneAnswer.{let_out_once, said_once}
 use Rattle.flt_files.specs.Attempts.{Does}
-use Rattle.flt_words.specs.Words.{asked}
 use Rattle.flt_commands.proofs.single.one_answer_at_most.Goals as goal
 
 pub returns : goal.returns
@@ -12,9 +11,9 @@ returns g c =
     let replayed = c.one_verdict_at_most.ensures in
     let nowhere = c.fails_exactly_where_nothing_is_spelled.ensures.nowhere in
     record {
-      one = λ inputs before pictures past others shown showing words. printed_once checked analysed thinned replayed nowhere
+      one = λ inputs before pictures past others shown showing request. let_out_once checked analysed thinned replayed nowhere
           (g.I.Inputs.gives inputs) (g.P.Pictures.written pictures) (g.P.Pictures.written others)
           (Does (pictures ≡ before) (g.P.Pictures.done before) (g.P.Pictures.done pictures))
-          (Does (others ≡ past) (g.P.Pictures.done past) (g.P.Pictures.done others)) shown showing (asked words);
+          (Does (others ≡ past) (g.P.Pictures.done past) (g.P.Pictures.done others)) shown showing request;
       said = λ inputs. said_once checked analysed thinned replayed nowhere (g.I.Inputs.gives inputs);
     }

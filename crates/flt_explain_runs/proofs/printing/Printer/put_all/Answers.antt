@@ -5,7 +5,8 @@ use Rattle.flt_explain_runs.specs.Reported.{IsCut}
 use Rattle.flt_explain_runs.specs.Told.{nothing}
 use Rattle.flt_explain_runs.specs.Totals.{ending}
 use Rattle.flt_explain_runs.specs.declared.fault.ExplainFault.TheVariants.{OutOfMemory}
-use Rattle.flt_explain_runs.proofs.Several.{all_noted, all_print, all_reports, all_said, all_sent, appends_none, cut_here}
+use Rattle.flt_door.proofs.Lines.{shows_nothing}
+use Rattle.flt_explain_runs.proofs.Several.{all_noted, all_print, all_reports, all_said, all_sent, cut_here}
 use Rattle.flt_explain_runs.proofs.Several.{empty_notes, printed_more, printed_none, report_more, rest_out}
 use Rattle.flt_explain_outcomes.proofs.Studied.{last_studied, one_taken, placed_here, studied_here}
 use Rattle.flt_explain_runs.proofs.printing.Printer.put_all.Goals as goal
@@ -15,7 +16,7 @@ loop-studied-init g c = record {
   printed = printed_none _ _ _ c.new-printed.result c.new-printed.ensures.bytes c.new-printed.ensures.noted c.new-printed.ensures.total;
   holds = record { none = λ h. c.new-printed.ensures.sent; all = λ h. rw (c.new-printed.ensures.sent, c.new-printed.ensures.bytes) refl };
   held = λ h. refl;
-  out = λ h. rw c.new-printed.ensures.bytes (appends_none _);
+  out = λ h. rw c.new-printed.ensures.bytes (shows_nothing _);
   fine = refl;
 }
 

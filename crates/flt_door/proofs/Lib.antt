@@ -1,0 +1,4 @@
+mod Fronts
+pub mod Lines
+mod Passing
+mod Pieces
