@@ -14,3 +14,4 @@ pub mod OneThin
 pub mod OneVerdict
 pub mod Reported
 pub mod SentFor
+pub mod Untouched

@@ -7,6 +7,7 @@ use Rattle.flt_commands.proofs.Covered.{Law, LawOfRuns, clean_of}
 use Rattle.flt_commands.specs.Commands.{Answers, AnswersFor, AreThose, HasCodes, HoldsBack, IsAnswered}
 use Rattle.flt_commands.specs.Commands.{IsBefore, IsCutShort, IsKept, IsRemarked, NamesNoJournal, IsRemarkedAfter}
 use Rattle.flt_commands.specs.Commands.{IsReported, IsSaid, codes_of, giving_for, texts_in}
+use Rattle.flt_door.specs.Door.{at_door}
 use Rattle.flt_files.specs.Attempts.{Attempt, AreDeedsOf, Does, Failed, IsUndone, Wrote, none as no_deeds}
 use Rattle.flt_files.specs.Deeds.{Deed}
 use Rattle.flt_commands_runs.specs.Drawn.{IsDrawnFor}
@@ -212,7 +213,7 @@ module _ (written : Text → Text → Type 0) (does did : List Attempt → Type 
       IsDrawnFor written did picture texts own
   drawn_as None texts own is = said_so [] is
   drawn_as (Some name) texts (Ok (Shown rows v)) is =
-      (is.0, is.1, (is.2.0, is.2.1, is.2.2, said_so (Wrote name is.2.0 ∷ []) is.2.3))
+      (is.0, is.1, (is.2.0, is.2.1, is.2.2, said_so (Wrote name (at_door is.2.0) ∷ []) is.2.3))
   drawn_as (Some name) texts (Ok _) is = absurd is
   drawn_as (Some name) texts (Err f) is = undone_as name f is
 

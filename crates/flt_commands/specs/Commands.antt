@@ -129,6 +129,14 @@ NamesNoJournal (Some (Explain form colour search (Some journal) warnings is_c fi
 NamesNoJournal (Some (EmitInto folder is_forced file cert)) = ⊥
 NamesNoJournal request = Unit {0}
 
+-- no file is named for what is made: for the journal of a finding, a picture, layouts or a driver
+abbrev pub WritesNoFile : Option Asked → Type 0
+WritesNoFile (Some (Explain form colour search (Some journal) warnings is_c files)) = ⊥
+WritesNoFile (Some (Show timeline (Some picture) journal files)) = ⊥
+WritesNoFile (Some (Format Write files)) = ⊥
+WritesNoFile (Some (EmitInto folder is_forced file cert)) = ⊥
+WritesNoFile request = Unit {0}
+
 -- ---- all of it
 
 -- the texts that a report has

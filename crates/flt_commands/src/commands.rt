@@ -95,6 +95,7 @@ fn report_of<'a, R: Threads + Wait + Sync, I: Inputs, P: Pictures, O: Sink, W: W
     ensures memory { IfErr result (λ e. e ≡ CommandFault.OutOfMemory →
         spec.IsCutShort (I.gives inputs.now) (asked_of request.entry) (O.taken out.old) (O.taken out.new)) }
     ensures held { spec.HoldsBack (asked_of request.entry) → out.new ≡ out.old }
+    ensures untouched { spec.WritesNoFile (asked_of request.entry) → pictures.new ≡ pictures.old }
 {
     covered_texts_break_nothing();
     driven_texts_break_nothing();
@@ -331,6 +332,7 @@ pub fn command<
         out.new ≡ out.old) }
     ensures quiet { IfOk result (λ report. report.status ≢ 2 → spec.NamesNoJournal (asked_of request.entry) →
         err.new ≡ err.old) }
+    ensures untouched { spec.WritesNoFile (asked_of request.entry) → pictures.new ≡ pictures.old }
 {
     all_that_goes_out_is_shown();
     let is_own = gives_bytes(&request);

@@ -1,7 +1,7 @@
 //! The report on the outcome of `explain` for files.
 
 ghost use Rattle.flt_door.specs.Lines.{Shows};
-ghost use Rattle.std.specs.Prelude.{◌≡◌, ◌≢◌, [], Bool, IfErr, IfOk, OnOk, Some, map, option_map, take};
+ghost use Rattle.std.specs.Prelude.{◌≡◌, ◌≢◌, [], Bool, IfErr, IfOk, None, OnOk, Some, map, option_map, take};
 ghost use Rattle.flt_commands_explain.specs.Allowed.{options_of};
 ghost use Rattle.flt_files.specs.Attempts.{Does};
 ghost use Rattle.flt_commands.specs.Commands.{IsAnswered, NamesNoJournal};
@@ -45,6 +45,7 @@ pub(crate) fn report_on_files<'a, I: Inputs, P: Pictures, O: Sink, W: SearchWatc
     ensures memory { IfErr result (λ e. e ≡ CommandFault.OutOfMemory →
         spec.IsCutShort (I.gives inputs.now) asked.entry.is_c asked.entry.form asked.entry.options (spec.search_of asked.entry.search)
         (map (λ name. name.now) asked.entry.allowed.now) (map (λ name. name.now) files.now) (O.taken out.old) (O.taken out.new)) }
+    ensures untouched { asked.entry.journal ≡ None → pictures.new ≡ pictures.old }
 {
     covered_texts_break_nothing();
     driven_texts_break_nothing();

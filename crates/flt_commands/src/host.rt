@@ -1,7 +1,7 @@
 //! The program on its system: its streams, and its own words.
 
 ghost use Rattle.std.specs.Prelude.{◌≡◌, [], IfNone, IfOk, IfSome, map, string_bytes};
-ghost use Rattle.flt_commands.specs.Commands.{AllIsShown, AnswersSomehow};
+ghost use Rattle.flt_commands.specs.Commands.{AllIsShown, AnswersSomehow, WritesNoFile};
 ghost use Rattle.flt_commands.specs.Folders.{AreExpanded, barred_in, names_in};
 ghost use Rattle.flt_commands_explain.specs.Served.{ServesSomehow};
 ghost use Rattle.flt_files.specs.Deeds.{deeds_in};
@@ -225,6 +225,7 @@ fn execute<'a, R: Threads + Wait + Sync>(
 ) -> (Option<Report>, Deeds)
     ensures answered { IfSome result.0 (AnswersSomehow given_by_host written_by_host (deeds_in result.1) (asked_of request.entry)) }
     ensures shown { IfSome result.0 (AllIsShown (asked_of request.entry)) }
+    ensures idle { WritesNoFile (asked_of request.entry) → deeds_in result.1 ≡ [] }
 {
     let files = HostSystem::new(rt, barred);
     let host = HostSystem::new(rt, barred);
@@ -298,6 +299,8 @@ fn execute_with<'a, R: Threads + Wait + Sync>(
         (with_files (map string_bytes files.entry.now) (asked (map string_bytes words.entry.now))))) }
     ensures shown { IfOk result (λ done. IfSome done.0 (AllIsShown
         (with_files (map string_bytes files.entry.now) (asked (map string_bytes words.entry.now))))) }
+    ensures idle { IfOk result (λ done. WritesNoFile (with_files (map string_bytes files.entry.now)
+        (asked (map string_bytes words.entry.now))) → deeds_in done.1 ≡ []) }
 {
     let request = read_words(rt.alloc(), words)?;
     let names = slices_of(rt.alloc(), files)?;
@@ -316,6 +319,8 @@ fn execute_words<R: Threads + Wait + Sync>(
     ensures answered { IfOk result (λ done. IfSome done.1 (AnswersSomehow given_by_host written_by_host (deeds_in done.2)
         (with_files (names_in done.0) (asked (map string_bytes words.now))))) }
     ensures shown { IfOk result (λ done. IfSome done.1 (AllIsShown (with_files (names_in done.0) (asked (map string_bytes words.now))))) }
+    ensures idle { IfOk result (λ done. WritesNoFile (with_files (names_in done.0) (asked (map string_bytes words.now))) →
+        deeds_in done.2 ≡ []) }
 {
     let files = files_of_words(rt, words)?;
     let names = files.names.as_slice();
@@ -387,6 +392,8 @@ pub fn run<R: Threads + Wait + Sync>(rt: &HostRuntime, threads: &R) -> Execution
     ensures apart { IfSome result.report (λ _. ¬ (AskToServe (map string_bytes result.words.items))) }
     ensures asked { IfSome result.served (λ _. AskToServe (map string_bytes result.words.items)) }
     ensures untouched { IfSome result.served (λ _. deeds_in result.deeds ≡ []) }
+    ensures idle { WritesNoFile (with_files (names_in result.files) (asked (map string_bytes result.words.items))) →
+        deeds_in result.deeds ≡ [] }
 {
     let Some(words) = words_of(rt) else {
         return not_executed(rt, Vec::new(rt.alloc()));

@@ -29,6 +29,7 @@ pub(crate) fn report_on_layouts<I: Inputs, P: Pictures>(
     ensures quiet { IfOk result (λ report. report.status ≢ 2 → report.remark.items ≡ []) }
     ensures sent { IfOk result (λ report. report.sent ≡ 0) }
     ensures err { IfErr result (λ e. e ≡ CommandFault.OutOfMemory) }
+    ensures untouched { mode ≢ FormatMode.Write → pictures.new ≡ pictures.old }
 {
     covered_texts_break_nothing();
     driven_texts_break_nothing();

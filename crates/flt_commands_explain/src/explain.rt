@@ -417,6 +417,7 @@ fn keep<'a, P: Pictures>(
         (Does (pictures.new ≡ pictures.old) (P.done pictures.old) (P.done pictures.new))
         (option_map (λ name. name.now) journal.entry) (spec.said_of said)) }
     ensures none { OnErr result (journal.entry ≢ None) }
+    ensures untouched { journal.entry ≡ None → pictures.new ≡ pictures.old }
 {
     let Some(name) = journal else {
         return Ok(Explanation::Told(told, unread));
@@ -459,6 +460,7 @@ pub fn explain_files<'a, I: Inputs, P: Pictures, O: Sink, W: SearchWatch>(
     ensures memory { IfErr result (λ e. e ≡ CommandFault.OutOfMemory →
         spec.IsCutShort (I.gives inputs.now) asked.entry.is_c asked.entry.form asked.entry.options (spec.search_of asked.entry.search)
         (map (λ name. name.now) asked.entry.allowed.now) (map (λ name. name.now) files.now) (O.taken out.old) (O.taken out.new)) }
+    ensures untouched { asked.entry.journal ≡ None → pictures.new ≡ pictures.old }
 {
     let NamedFiles { read, mut unread } = find_each(alloc, inputs, asked.is_c, files)?;
     let joined = join(alloc, read.as_slice())?;

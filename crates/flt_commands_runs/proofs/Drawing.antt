@@ -2,6 +2,7 @@
 use Rattle.std.proofs.Common.{List, [], ◌∷◌, Option, Some, None, Bor, Result, Ok, Err, IfOk, OnOk, option_map}
 use Rattle.flt_commands_runs.specs.Drawn.{IsDrawnFor, IsDrawnIn, IsDrawnOf}
 use Rattle.flt_commands_runs.specs.Replay.{IsFailure}
+use Rattle.flt_door.specs.Door.{at_door}
 use Rattle.flt_explain_picture.specs.Pictures.{IsPicture}
 use Rattle.flt_explain_picture.specs.Titles.{title_of}
 use Rattle.flt_files.specs.Attempts.{Attempt, IsUndone, Wrote}
@@ -11,10 +12,11 @@ use Rattle.flt_files.specs.declared.failure.Failure.TheVariants.{CannotWrite, Ou
 use Rattle.flt_model.specs.declared.verdict.Verdict.{Verdict}
 use Rattle.flt_tree.specs.declared.filter.Filter.{Filter}
 
--- a picture that is written is drawn
+-- a picture of which this is written is drawn
 pub drawn_by : {A E F : Type 0} (written : Text → Text → Type 0) (does : List Attempt → Type 0) (name drawn : Text) (filters : List Filter)
     (v : Verdict) (result : Result (Result A F) E) → IsPicture (title_of filters v) drawn →
-    IfOk result (λ tried. OnOk tried (written name drawn)) → IfOk result (λ tried. OnOk tried (does (Wrote name drawn ∷ []))) →
+    IfOk result (λ tried. OnOk tried (written name (at_door drawn))) →
+    IfOk result (λ tried. OnOk tried (does (Wrote name (at_door drawn) ∷ []))) →
     IfOk result (λ tried. OnOk tried (IsDrawnOf written does name filters v))
 drawn_by written does name drawn filters v (Ok (Ok x)) is done did = (drawn, is, done, did)
 drawn_by written does name drawn filters v (Ok (Err f)) is done did = tt

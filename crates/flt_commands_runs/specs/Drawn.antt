@@ -1,6 +1,7 @@
 -- What is written under the name of a picture. This project's own program.
 use Rattle.std.specs.Prelude.{List, [], ◌∷◌, Option, Some, None, Result, Ok, Err}
 use Rattle.flt_syntax.specs.Texts.{AreSpelled}
+use Rattle.flt_door.specs.Door.{at_door}
 use Rattle.flt_model.specs.declared.verdict.Verdict.{Verdict}
 use Rattle.flt_explain_picture.specs.Pictures.{IsPicture}
 use Rattle.flt_explain_picture.specs.Titles.{title_of}
@@ -11,10 +12,10 @@ use Rattle.flt_commands_runs.specs.declared.answer.RunAnswer.{RunAnswer}
 use Rattle.flt_commands_runs.specs.declared.answer.RunAnswer.TheVariants.{Shown}
 use Rattle.flt_files.specs.declared.failure.Failure.{Failure}
 
--- a picture with the title of this verdict on these filters is written under a name, and nothing else is done
+-- what goes out of a picture with the title of this verdict on these filters is written under a name, and nothing else is done
 abbrev pub IsDrawnOf : (Text → Text → Type 0) → (List Attempt → Type 0) → Text → List Filter → Verdict → Type 0
 IsDrawnOf written does name filters v =
-    (drawn : Text) × IsPicture (title_of filters v) drawn × written name drawn × does (Wrote name drawn ∷ [])
+    (drawn : Text) × IsPicture (title_of filters v) drawn × written name (at_door drawn) × does (Wrote name (at_door drawn) ∷ [])
 
 -- the same where one is named and there is an answer; where there is none, the file of the name couldn't be written, or nothing is done
 abbrev pub IsDrawnIn : (Text → Text → Type 0) → (List Attempt → Type 0) → Option Text → List Filter → Verdict →

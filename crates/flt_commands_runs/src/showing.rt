@@ -6,10 +6,12 @@ ghost use Rattle.flt_commands_runs.specs.Drawn.{IsDrawnFor, IsDrawnIn, IsDrawnOf
 ghost use Rattle.flt_files.specs.Attempts.{Does, Failed, Grows};
 ghost use Rattle.flt_files.specs.Inputs.{Says};
 ghost use Rattle.flt_commands_runs.specs.Replay as spec;
+ghost use Rattle.flt_door.specs.Door.{at_door};
 ghost use Rattle.flt_model.specs.Program.{filters_of};
 
 use crate::answer::RunAnswer;
 use crate::replay::{JudgedJournal, replay_all};
+use flt_door::let_out;
 use flt_explain_picture::picture;
 use flt_explain_timeline::Timeline;
 use flt_files::{
@@ -28,6 +30,13 @@ fn rows_of(alloc: Global, is_asked: bool, timeline: &Timeline<'_>) -> Result<Vec
     Ok(timeline.text(alloc, 0)?.into_bytes())
 }
 
+/// Lets a picture out.
+fn let_picture_out(drawn: &mut Vec<u8>)
+    ensures { drawn.new.items ≡ at_door drawn.old.items }
+{
+    let_out(drawn.as_mut_slice());
+}
+
 /// Draws a journal on the filters of some texts into a file that is none of the inputs. Returns why that isn't written, if it isn't.
 fn draw<P: Pictures>(
     alloc: Global,
@@ -44,8 +53,9 @@ fn draw<P: Pictures>(
 {
     let trees = replayed.trees.as_slice();
     let (journal, verdict) = (&replayed.journal, replayed.verdict);
-    let drawn = picture(alloc, trees, texts, journal, verdict, timeline)?;
-    pictures.write(alloc, inputs, name, drawn.as_bytes())
+    let mut drawn = picture(alloc, trees, texts, journal, verdict, timeline)?.into_bytes();
+    let_picture_out(&mut drawn);
+    pictures.write(alloc, inputs, name, drawn.as_slice())
 }
 
 /// Shows a journal on the filters of some texts, with the monitor's verdict.

@@ -110,6 +110,7 @@ fn written<P: Pictures>(
     ensures did { IfOk result (λ outcome. Does (pictures.new ≡ pictures.old) (P.done pictures.old) (P.done pictures.new)
         (spec.attempts_by mode name.now outcome)) }
     ensures kept { (other bytes : List ℕ) → P.written pictures.old other bytes → P.written pictures.new other bytes }
+    ensures untouched { mode ≢ FormatMode.Write → pictures.new ≡ pictures.old }
 {
     match mode {
         FormatMode::Print => Ok(outcome),
@@ -132,6 +133,7 @@ fn file_outcome<P: Pictures>(
     ensures did { IfOk result (λ file. Does (pictures.new ≡ pictures.old) (P.done pictures.old) (P.done pictures.new)
         (spec.attempts_for mode file)) }
     ensures kept { (other bytes : List ℕ) → P.written pictures.old other bytes → P.written pictures.new other bytes }
+    ensures untouched { mode ≢ FormatMode.Write → pictures.new ≡ pictures.old }
 {
     let outcome = outcome_of(alloc, input)?;
     let outcome = written(alloc, mode, name, input, outcome, pictures)?;
@@ -153,6 +155,7 @@ fn file_outcomes<P: Pictures>(
     ensures done { IfOk result (λ files. All (spec.IsFileDone (P.written pictures.new) mode) files.items) }
     ensures did { IfOk result (λ files. Does (pictures.new ≡ pictures.old) (P.done pictures.old) (P.done pictures.new)
         (spec.attempts_in mode files.items)) }
+    ensures untouched { mode ≢ FormatMode.Write → pictures.new ≡ pictures.old }
 {
     let mut files = Vec::new(alloc);
     for (number, text) in texts.iter().enumerate() {
@@ -175,6 +178,7 @@ pub fn format_files<I: Inputs, P: Pictures>(
         (map (λ text. text.items) contents.new.texts.items)) }
     ensures kept { IfOk result (λ found. spec.IsFormatKept (P.written pictures.new)
         (Does (pictures.new ≡ pictures.old) (P.done pictures.old) (P.done pictures.new)) mode (Formatted mode found)) }
+    ensures untouched { mode ≢ FormatMode.Write → pictures.new ≡ pictures.old }
 {
     let read = read_each(alloc, inputs, files)?;
     let names = read.names;

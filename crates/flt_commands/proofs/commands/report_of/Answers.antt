@@ -3,6 +3,7 @@ use Rattle.flt_commands.proofs.Reported.{answers_asked, answers_of, before_shown
 use Rattle.flt_commands.proofs.Reported.{quiet_asked, quiet_shown, remarked_after, says_of_pages, those_after, those_of}
 use Rattle.flt_words.specs.Request.{Check, Analyse, Thin, Run, Replay, Show, Extract, Pages, Emit, EmitInto, Compare, Serve, asked_of, choice_of}
 use Rattle.flt_files.specs.Attempts.{Does}
+use Rattle.flt_commands.proofs.Untouched.{by_emit, by_explain, by_format, by_show}
 use Rattle.flt_commands.proofs.commands.report_of.Goals as goal
 
 pub returns-in-Check-clause-answers : goal.returns-in-Check-clause-answers
@@ -228,3 +229,32 @@ returns-in-Compare-clause-answers g c =
     refl
     (those_of _ _ c.report_on-in-Compare.ensures.texts) c.report_on-in-Compare.ensures.codes c.report_on-in-Compare.ensures.reported
     (remarked_after request _ _ _ c.new-in-Compare.ensures.items c.report_on-in-Compare.ensures.remarked)
+
+pub returns-in-Explain-clause-untouched : goal.returns-in-Explain-clause-untouched
+returns-in-Explain-clause-untouched g c =
+    by_explain _ _ _ c.in-Explain.form c.in-Explain.colour c.in-Explain.search c.in-Explain.journal (choice_of c.in-Explain.warnings)
+    c.in-Explain.is_c _ (ap asked_of (sym c.in-Explain.is)) c.report_on_files.ensures.untouched
+
+pub returns-in-Format-clause-untouched : goal.returns-in-Format-clause-untouched
+returns-in-Format-clause-untouched g c =
+    by_format _ _ _ c.in-Format.mode _ (ap asked_of (sym c.in-Format.is)) c.report_on_layouts.ensures.untouched
+
+pub returns-in_ok-before-in-Show-clause-untouched : goal.returns-in_ok-before-in-Show-clause-untouched
+returns-in_ok-before-in-Show-clause-untouched g c =
+    by_show _ _ _ (g.P.Pictures.done c.args.pictures.now) (g.P.Pictures.done c.show_files-said.new.pictures)
+    (g.P.Pictures.written c.show_files-said.new.pictures) c.in-Show.timeline c.in-Show.picture c.in-Show.journal.now _
+    (map (λ text. text.items) c.show_files-said.new.contents.texts.items) c.show_files-said.result
+    (ap asked_of (sym c.in-Show.is)) c.show_files-said.ensures.drawn
+
+pub returns-in_err-before-in-Show-clause-untouched : goal.returns-in_err-before-in-Show-clause-untouched
+returns-in_err-before-in-Show-clause-untouched g c =
+    by_show _ _ _ (g.P.Pictures.done c.args.pictures.now) (g.P.Pictures.done c.show_files-said.new.pictures)
+    (g.P.Pictures.written c.show_files-said.new.pictures) c.in-Show.timeline c.in-Show.picture c.in-Show.journal.now _
+    (map (λ text. text.items) c.show_files-said.new.contents.texts.items) c.show_files-said.result
+    (ap asked_of (sym c.in-Show.is)) c.show_files-said.ensures.drawn
+
+pub returns-in_ok-before-in-EmitInto-clause-untouched : goal.returns-in_ok-before-in-EmitInto-clause-untouched
+returns-in_ok-before-in-EmitInto-clause-untouched g c = by_emit _ _ _ _ _ _ _ (ap asked_of (sym c.in-EmitInto.is))
+
+pub returns-in_err-before-in-EmitInto-clause-untouched : goal.returns-in_err-before-in-EmitInto-clause-untouched
+returns-in_err-before-in-EmitInto-clause-untouched g c = by_emit _ _ _ _ _ _ _ (ap asked_of (sym c.in-EmitInto.is))

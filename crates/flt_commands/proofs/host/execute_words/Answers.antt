@@ -5,3 +5,6 @@ returns-clause-answered g c = rw c.as_slice-names.ensures.value at c.in_ok-repor
 
 pub returns-clause-shown : goal.returns-clause-shown
 returns-clause-shown g c = rw c.as_slice-names.ensures.value at c.in_ok-report.ensures.shown
+
+pub returns-clause-idle : goal.returns-clause-idle
+returns-clause-idle g c = rw c.as_slice-names.ensures.value at c.in_ok-report.ensures.idle

@@ -10,6 +10,7 @@ loop-number-init g c = record {
   are = rw c.new-files.ensures.items spec.none;
   done = rw c.new-files.ensures.items (All-nil _);
   did = rw c.new-files.ensures.items refl;
+  untouched = λ other. refl;
 }
 
 pub loop-number-preserved : goal.loop-number-preserved
@@ -27,4 +28,5 @@ loop-number-preserved g c =
           c.in_ok-file.ensures.done c.in_ok-push.ensures.items;
       did = does_for g.P.Pictures.done _ _ _ c.args.mode c.loop-number.files.items _ c.in_ok-file.file c.loop-number.invariant.did
           c.in_ok-file.ensures.did c.in_ok-push.ensures.items;
+      untouched = λ other. rw (c.in_ok-file.ensures.untouched other) (c.loop-number.invariant.untouched other);
     }
