@@ -237,7 +237,7 @@ pre read {
 }'
 
 # The crates with tests that are there for memory.
-crates_of_tests=(flt_tests flt_stack_tests)
+crates_of_tests=(flt_tests flt_c_tests flt_stack_tests)
 
 try_all() {
     local -a started=() words=()

@@ -1,0 +1,5 @@
+pub mod Cut
+pub mod Known
+pub mod Lengths
+pub mod Spelling
+pub mod Texts
