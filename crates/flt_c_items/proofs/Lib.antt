@@ -1,0 +1,2 @@
+pub mod AllTokens
+pub mod LeftOut
