@@ -1,7 +1,13 @@
-//! Tests of the reader of plain C: the tokens of C files, and their items.
+//! Tests of the reader of plain C: the tokens of C files, their items, and the bodies of their functions.
 #![tactic(auto)]
 
+#[cfg(test)]
+mod bodies;
+#[cfg(test)]
+mod cut;
 #[cfg(test)]
 mod items;
 #[cfg(test)]
 mod tokens;
+#[cfg(test)]
+mod trees;

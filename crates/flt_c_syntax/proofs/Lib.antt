@@ -1,0 +1,12 @@
+pub mod Again
+pub mod ExpressionComplete
+pub mod ExpressionSound
+pub mod ExpressionTakes
+pub mod Gives
+pub mod Groups
+pub mod Laws
+pub mod StatementComplete
+pub mod StatementSound
+pub mod StatementTakes
+pub mod TokenKinds
+pub mod Turns

@@ -1,0 +1,12 @@
+pub mod Body
+pub mod Cursor
+pub mod Expression
+pub mod ExpressionGrammar
+pub mod Groups
+pub mod Made
+pub mod Operators
+pub mod Statement
+pub mod StatementGrammar
+pub mod Tokens
+pub mod Types
+pub mod Words
