@@ -15,7 +15,9 @@ use crate::layouts::report_on_layouts;
 use crate::report::{Report, report_on};
 use crate::search::{Search, WatchSearch};
 use flt_commands_explain::{CommandFault, ExplainOptions, options_of, pages_of};
-use flt_commands_runs::{replay_files, run_files, show_files, show_remark, tell_deadlock};
+use flt_commands_runs::{
+    WatchDeadlock, replay_files, run_files, show_files, show_remark, tell_deadlock,
+};
 use flt_commands_texts::{
     analyse_file, check_files, compare_files, emit_files, emit_files_into, extract_files,
     into_remark, thin_files,
@@ -75,7 +77,14 @@ fn gives_bytes(request: &Request) -> bool
 
 /// The report on a request. A part of the output of `explain` may be written already.
 #[tactic(auto, using(crate::proofs::SentFor::cut_short_for, flt_commands_explain::proofs::Sent::none_sent))]
-fn report_of<'a, R: Threads + Wait + Sync, I: Inputs, P: Pictures, O: Sink, W: Watch + WatchSearch>(
+fn report_of<
+    'a,
+    R: Threads + Wait + Sync,
+    I: Inputs,
+    P: Pictures,
+    O: Sink,
+    W: Watch + WatchDeadlock + WatchSearch,
+>(
     rt: &R,
     alloc: Global,
     request: Request<'a>,
@@ -306,7 +315,7 @@ pub fn command<
     P: Pictures,
     O: Sink,
     E: Sink,
-    W: Watch + WatchSearch,
+    W: Watch + WatchDeadlock + WatchSearch,
 >(
     rt: &R,
     alloc: Global,

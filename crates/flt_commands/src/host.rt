@@ -15,10 +15,11 @@ use crate::folders::{ExpandedFiles, with_folders};
 use crate::report::Report;
 use crate::search::WatchSearch;
 use flt_commands_explain::{CommandFault, serve_client};
+use flt_commands_runs::WatchDeadlock;
 use flt_files::{
     BarredFile, CountedReader, Deeds, HostFolders, HostSystem, Reader, SystemFiles, WrittenFiles,
 };
-use flt_model::{ReadFault, Writing};
+use flt_model::{ReadFault, Writing, put_all};
 use flt_server_frames::{Incoming, ServeFault};
 use flt_stack_crew::Watch;
 use flt_words::{Request, ask_to_serve, read_words};
@@ -52,9 +53,11 @@ impl Watch for Progress<'_> {
             let _ = eprintln!(self.rt; "{lines} lines: {entries} entries");
         }
     }
+}
 
-    fn waits(&mut self, lines: &str) {
-        let _ = eprintln!(self.rt; "{lines}");
+impl WatchDeadlock for Progress<'_> {
+    fn waits(&mut self, lines: &[u8]) {
+        let _ = put_all(&mut Writing::new(self.rt.stderr()), lines);
     }
 }
 

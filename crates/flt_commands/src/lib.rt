@@ -16,6 +16,7 @@ mod single;
 
 pub use commands::command;
 pub use flt_commands_explain::{CommandFault, serve_client};
+pub use flt_commands_runs::WatchDeadlock;
 pub use flt_server_frames::{Incoming, ServeFault};
 pub use flt_stack_crew::{NoWatch, Watch};
 pub use folders::ExpandedFiles;

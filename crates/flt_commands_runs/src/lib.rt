@@ -8,7 +8,7 @@ mod running;
 mod showing;
 
 pub use answer::RunAnswer;
-pub use deadlock::tell_deadlock;
+pub use deadlock::{WatchDeadlock, tell_deadlock};
 pub use replay::replay_files;
 pub use running::run_files;
 pub use showing::{show_files, show_remark};

@@ -7,6 +7,7 @@ use Rattle.json.specs.Json.{Json}
 use Rattle.flt_server_session.specs.Answers.{Answers, IsAnswered, IsRead, IsReported, after_body, end_of_body, of_body, report_of_body}
 use Rattle.flt_server_session.specs.Commands.{Report}
 use Rattle.flt_server_session.specs.Kept.{AreKept}
+use Rattle.flt_server_session.specs.Outgoing.{GoesOut}
 use Rattle.flt_server_session.specs.Replies as replies
 use Rattle.flt_server_session.specs.declared.document.KeptText.{KeptText}
 use Rattle.flt_server_session.specs.declared.session.Session.{Session}
@@ -21,6 +22,7 @@ answered most reports (Ok a) old new body read is answers report phase documents
   read = read;
   is_read = is;
   response = answers.response;
+  notices = answers.notices;
   report = report;
   ends = answers.ends;
   phase = phase;
@@ -35,9 +37,10 @@ pub not_read : (most : List ℕ → ℕ) (reports : List ℕ → KeptText → Li
 not_read most reports (Ok a) old body is answers = answered most reports (Ok a) old old body None is answers tt refl (λ are. are)
 not_read most reports (Err e) old body is answers = tt
 
--- a result that the reporter may write is the report that is asked for
+-- what goes out of a result that the reporter may write is the report that is asked for
 pub reported : (reports : List ℕ → KeptText → List ℕ → Type 0) (report : Report) (text : List ℕ) (r : Result MessageAnswer AllocError) →
-    reports report.uri report.text text → IfOk r (λ a. option_map (λ v. v.items) a.response ≡ Some (replies.answered report.id text)) →
+    reports report.uri report.text text →
+    IfOk r (λ a. (out : List ℕ) × GoesOut text out × (option_map (λ v. v.items) a.response ≡ Some (replies.answered report.id out))) →
     IfOk r (λ a. IsReported reports (Some report) (option_map (λ v. v.items) a.response))
-reported reports report text (Ok a) may is = (text, may, is)
+reported reports report text (Ok a) may is = (text, is.0, may, is.1, is.2)
 reported reports report text (Err e) may is = tt

@@ -1,3 +1,4 @@
 mod Answering
+mod GoingOut
 mod Ids
 mod Keeping

@@ -1,5 +1,5 @@
 -- What a session answers to the body of a message. The Language Server Protocol, version 3.17, and JSON-RPC 2.0.
-use Rattle.std.specs.Prelude.{◌≡◌, ℕ, List, [], ◌∷◌, Bool, codes, if◌then◌else◌, Option, Some, None, ⊤, option_map}
+use Rattle.std.specs.Prelude.{◌≡◌, ℕ, List, [], ◌∷◌, Bool, true, false, codes, if◌then◌else◌, Option, Some, None, ⊤, map, option_map}
 use Rattle.std.specs.List.{list_any}
 use Rattle.std.specs.Str.{IsUtf8, bytes_eq}
 use Rattle.json.specs.Find.{get}
@@ -12,9 +12,12 @@ use Rattle.flt_server_frames.specs.declared.handler.MessageAnswer.{MessageAnswer
 use Rattle.flt_server_session.specs.Commands.{Report, report_asked}
 use Rattle.flt_server_session.specs.Kept.{AreKept}
 use Rattle.flt_server_session.specs.Messages.{Message, malformed, reply, notification, request, message_of}
+use Rattle.flt_server_session.specs.Outgoing.{AreNotices, GoesOut, IsShownJson}
 use Rattle.flt_server_session.specs.Replies as replies
 use Rattle.flt_server_session.specs.declared.document.Document.{Document}
 use Rattle.flt_server_session.specs.declared.document.KeptText.{KeptText}
+use Rattle.flt_server_session.specs.declared.method.Topic.{Topic}
+use Rattle.flt_server_session.specs.declared.method.Topic.TheVariants.{Hover, Completion, Definition, References, Symbols, Folds, Actions}
 use Rattle.flt_server_session.specs.declared.reply.Refusal.{Refusal}
 use Rattle.flt_server_session.specs.declared.reply.Refusal.TheVariants.{NotJson, NoRequest, UnknownMethod, BadParams, NotInitialized, TooLong}
 use Rattle.flt_server_session.specs.declared.phase.Phase.{Phase}
@@ -26,42 +29,67 @@ use Rattle.flt_server_session.specs.declared.session.Session.{Session}
 abbrev pub is : List ℕ → List ℕ → Bool
 is method name = bytes_eq method name
 
--- the methods that ask about a document
-abbrev pub questions : List (List ℕ)
-questions =
-    codes "textDocument/hover" ∷ codes "textDocument/completion" ∷ codes "textDocument/definition"
-    ∷ codes "textDocument/references" ∷ codes "textDocument/documentSymbol" ∷ codes "textDocument/foldingRange"
-    ∷ codes "textDocument/codeAction" ∷ []
+abbrev pub is_one_of : List (List ℕ) → List ℕ → Bool
+is_one_of names method = list_any (λ name. bytes_eq method name) names
 
-abbrev pub is_question : List ℕ → Bool
-is_question method = list_any (λ name. bytes_eq method name) questions
+-- the methods that ask for words about a document
+abbrev pub word_questions : List (List ℕ)
+word_questions =
+    codes "textDocument/hover" ∷ codes "textDocument/completion" ∷ codes "textDocument/documentSymbol"
+    ∷ codes "textDocument/foldingRange" ∷ []
+
+-- those that ask for places in a document, or for edits of it
+abbrev pub place_questions : List (List ℕ)
+place_questions = codes "textDocument/definition" ∷ codes "textDocument/references" ∷ codes "textDocument/codeAction" ∷ []
+
+-- whether a method asks for words about a document; none if it doesn't ask about one
+abbrev pub question_of : List ℕ → Option Bool
+question_of method =
+    if is_one_of word_questions method then Some true else (if is_one_of place_questions method then Some false else None)
+
+-- whether an answer to a question has words
+abbrev pub has_words : Topic → Bool
+has_words Hover = true
+has_words Completion = true
+has_words Definition = false
+has_words References = false
+has_words Symbols = true
+has_words Folds = true
+has_words Actions = false
 
 -- ---- responses
 
--- what response there is: none, the error of a message of an id, or some result for a request of an id
+-- what response there is: none, the error of a message of an id, or some result for a request of an id, of which all may be shown
 pub data Expected : Type 0 where
   no_response : Expected
   an_error : List ℕ → Refusal → Expected
   a_result : List ℕ → Expected
+  a_shown_result : List ℕ → Expected
 
 -- a response is as it must be
 abbrev pub IsResponse : Expected → Option (List ℕ) → Type 0
 IsResponse no_response r = r ≡ None
 IsResponse (an_error id why) r = r ≡ Some (replies.refused id why)
 IsResponse (a_result id) r = (text : List ℕ) × (r ≡ Some (replies.answered id text))
+IsResponse (a_shown_result id) r = (text : List ℕ) × IsShownJson text × (r ≡ Some (replies.answered id text))
 
 -- before `initialize`
 abbrev pub of_first : List ℕ → List ℕ → Expected
 of_first id method = if is method (codes "initialize") then a_result id else an_error id NotInitialized
 
--- of a question, or of what isn't known
+-- of a question that asks for words or doesn't, or of what isn't known
+abbrev pub of_asking : List ℕ → Option Bool → Expected
+of_asking id None = an_error id UnknownMethod
+of_asking id (Some false) = a_result id
+of_asking id (Some true) = a_shown_result id
+
 abbrev pub of_question : List ℕ → List ℕ → Expected
-of_question id method = if is_question method then a_result id else an_error id UnknownMethod
+of_question id method = of_asking id (question_of method)
 
 -- of a command, by the report that it asks for
 abbrev pub of_report : List ℕ → Option Report → Expected
 of_report id None = an_error id BadParams
-of_report id (Some report) = a_result id
+of_report id (Some report) = a_shown_result id
 
 abbrev pub is_command : List ℕ → Bool
 is_command method = is method (codes "workspace/executeCommand")
@@ -127,11 +155,12 @@ abbrev pub report_of_body : Session → Option Json → Option Report
 report_of_body session None = None
 report_of_body session (Some j) = report_of_message session (message_of j) (params_of j)
 
--- the result of a response is the report that is asked for, if one is: of a document of a name, with what is kept of its text, it may be
--- written so
+-- the result of a response is what goes out of the report that is asked for, if one is: of a document of a name, with what is kept of its
+-- text, it may be written so
 abbrev pub IsReported : (List ℕ → KeptText → List ℕ → Type 0) → Option Report → Option (List ℕ) → Type 0
 IsReported reports None r = ⊤
-IsReported reports (Some report) r = (text : List ℕ) × reports report.uri report.text text × (r ≡ Some (replies.answered report.id text))
+IsReported reports (Some report) r =
+    (text : List ℕ) × (out : List ℕ) × reports report.uri report.text text × GoesOut text out × (r ≡ Some (replies.answered report.id out))
 
 -- ---- the end
 
@@ -175,9 +204,10 @@ after_body phase (Some j) = after_message phase (message_of j)
 
 -- ---- answers
 
--- an answer has the response that is expected, and ends the server so
+-- an answer has the response that is expected, and ends the server so; its notifications are of diagnostics that are shown
 pub record Answers (e : Expected) (end : Option ℕ) (a : MessageAnswer) : Type 0 where
   pub response : IsResponse e (option_map (λ v. v.items) a.response)
+  pub notices : AreNotices (map (λ v. v.items) a.notifications.items)
   pub ends : a.ends ≡ end
 
 -- a body is this JSON value, or none
@@ -192,6 +222,7 @@ pub record IsAnswered (most : List ℕ → ℕ) (reports : List ℕ → KeptText
   pub read : Option Json
   pub is_read : IsRead body read
   pub response : IsResponse (of_body old read) answer.response
+  pub notices : AreNotices answer.notifications
   pub report : IsReported reports (report_of_body old read) answer.response
   pub ends : answer.ends ≡ end_of_body old.phase read
   pub phase : new.phase ≡ after_body old.phase read

@@ -1,6 +1,6 @@
 //! The methods of requests and notifications.
 
-ghost use Rattle.std.specs.Prelude.{◌≡◌, is_some};
+ghost use Rattle.std.specs.Prelude.{◌≡◌, option_map};
 ghost use Rattle.flt_server_session.specs.Answers as spec;
 
 /// The topic of a question about a document.
@@ -15,6 +15,19 @@ pub(crate) enum Topic {
     Actions,
 }
 
+impl Topic {
+    /// Whether an answer has words, which are shown; else it has places, by the client's own name of a document, or edits, whose text is the
+    /// user's.
+    pub(crate) fn has_words(self) -> bool
+        ensures { result ≡ spec.has_words self }
+    {
+        match self {
+            Topic::Hover | Topic::Completion | Topic::Symbols | Topic::Folds => true,
+            Topic::Definition | Topic::References | Topic::Actions => false,
+        }
+    }
+}
+
 /// The event of a notification about a document.
 #[derive(Clone, Copy)]
 pub(crate) enum Notice {
@@ -25,7 +38,7 @@ pub(crate) enum Notice {
 
 /// The topic of a method; none if it is no question about a document.
 pub(crate) fn topic_of(method: &str) -> Option<Topic>
-    ensures { is_some result ≡ spec.is_question method.now }
+    ensures { option_map spec.has_words result ≡ spec.question_of method.now }
 {
     match method {
         "textDocument/hover" => Some(Topic::Hover),

@@ -6,8 +6,9 @@ ghost use Rattle.flt_server_session.specs.Answers as spec;
 ghost use Rattle.flt_server_session.specs.Commands as commands;
 ghost use Rattle.flt_server_session.specs.Kept.{AreKept};
 ghost use Rattle.flt_server_session.specs.Messages as messages;
+ghost use Rattle.flt_server_session.specs.Outgoing as outgoing;
 ghost use Rattle.flt_server_session.specs.Replies as replies;
-ghost use Rattle.flt_server_session.specs.Answers.{no_response, a_result, an_error};
+ghost use Rattle.flt_server_session.specs.Answers.{no_response, a_result, a_shown_result, an_error};
 ghost use Rattle.flt_server_session.specs.declared.phase.Phase.TheVariants.{Fresh, Ready, Stopped};
 ghost use Rattle.flt_server_session.specs.declared.reply.Refusal.TheVariants.{NotJson, NoRequest};
 ghost use Rattle.json.specs.Json.{document};
@@ -20,6 +21,7 @@ use crate::language::{Encoding, Language, OpenText, Question, Reporter};
 use crate::message::{Message, message_of};
 use crate::method::{Notice, Topic, notice_of, topic_of};
 use crate::notices::{cleared, declined, published};
+use crate::outgoing::let_json_out;
 use crate::params::{
     changed_text, explained_by, offers_utf8, opened_text, question_in, uri_in, version_in,
 };
@@ -57,6 +59,7 @@ fn silent(alloc: Global) -> MessageAnswer
 
 fn responding(alloc: Global, response: Vec<u8>) -> MessageAnswer
     ensures response { option_map (λ v. v.items) result.response ≡ Some response.items }
+    ensures notifications { result.notifications.items ≡ [] }
     ensures ends { result.ends ≡ None }
 {
     MessageAnswer {
@@ -76,10 +79,20 @@ fn refusing(alloc: Global, id: &[u8], refusal: Refusal) -> Result<MessageAnswer,
 
 /// The answer with this text as its result.
 fn resulting(alloc: Global, id: &[u8], text: &[u8]) -> Result<MessageAnswer, AllocError>
-    ensures answers { IfOk result (spec.Answers (a_result id.now) None) }
-    ensures text { IfOk result (λ a. option_map (λ v. v.items) a.response ≡ Some (replies.answered id.now text.now)) }
+    ensures { IfOk result (spec.Answers (a_result id.now) None) }
 {
     let response = answered(alloc, id, text)?;
+    Ok(responding(alloc, response))
+}
+
+/// The answer with what goes out of this text as its result.
+fn showing(alloc: Global, id: &[u8], text: &[u8]) -> Result<MessageAnswer, AllocError>
+    ensures answers { IfOk result (spec.Answers (a_shown_result id.now) None) }
+    ensures text { IfOk result (λ a. (out : List ℕ) × outgoing.GoesOut text.now out
+        × (option_map (λ v. v.items) a.response ≡ Some (replies.answered id.now out))) }
+{
+    let shown = let_json_out(alloc, text)?;
+    let response = answered(alloc, id, shown.as_slice())?;
     Ok(responding(alloc, response))
 }
 
@@ -91,16 +104,17 @@ fn reporting<R: Reporter>(
     uri: &str,
     document: &Document,
 ) -> Result<MessageAnswer, AllocError>
-    ensures answers { IfOk result (spec.Answers (a_result id.now) None) }
+    ensures answers { IfOk result (spec.Answers (a_shown_result id.now) None) }
     ensures report { IfOk result (λ a. spec.IsReported R.reports (commands.report_on id.now uri.now (Some document.now))
         (option_map (λ v. v.items) a.response)) }
 {
     let report = reporter.report(alloc, uri, &document.text)?;
-    resulting(alloc, id, report.as_slice())
+    showing(alloc, id, report.as_slice())
 }
 
-/// The answer that notifies of something.
+/// The answer that notifies of diagnostics.
 fn notifying(alloc: Global, notification: Vec<u8>) -> Result<MessageAnswer, AllocError>
+    requires { outgoing.IsNotice notification.items }
     ensures { IfOk result (spec.Answers no_response None) }
 {
     let mut notifications = Vec::new(alloc);
@@ -515,6 +529,9 @@ impl Session {
             return refusing(alloc, id, Refusal::UnknownMethod);
         };
         let text = self.result_with(alloc, language, topic, params)?;
+        if topic.has_words() {
+            return showing(alloc, id, text.as_slice());
+        }
         resulting(alloc, id, text.as_slice())
     }
 
