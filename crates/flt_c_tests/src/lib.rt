@@ -1,4 +1,4 @@
-//! Tests of the reader of plain C: the tokens of C files, their items, and the bodies of their functions.
+//! Tests of the reader of plain C: the tokens of C files, their directives and items, and the bodies of their functions.
 #![tactic(auto)]
 
 #[cfg(test)]
@@ -7,6 +7,8 @@ mod bodies;
 mod cut;
 #[cfg(test)]
 mod items;
+#[cfg(test)]
+mod macros;
 #[cfg(test)]
 mod tokens;
 #[cfg(test)]

@@ -1,16 +1,17 @@
 -- Tables of spellings: what stays when texts are added.
-use Rattle.std.proofs.Common.{◌≡◌, ℕ, ◌+◌, ◌≤◌, Bool, true, false, not, List, [], ◌∷◌, ◌++◌, map, length, take}
-use Rattle.std.proofs.Common.{refl, sym, ap, ◌∙◌, arith, append_assoc, length-append}
+use Rattle.std.proofs.Common.{◌≡◌, ℕ, ◌+◌, ◌-◌, ◌≤◌, Bool, true, false, not, List, [], ◌∷◌, ◌++◌, map, length, take, max}
+use Rattle.std.proofs.Common.{refl, sym, ap, subst, ◌∙◌, arith, append_assoc, length-append}
 use Rattle.std.proofs.lemmas.Bool.{true≢false}
-use Rattle.std.proofs.lemmas.List.{append-nil}
+use Rattle.std.proofs.lemmas.List.{append-nil, length-map}
 use Rattle.std.proofs.lemmas.List.Sums.{prefix_len-le-length}
-use Rattle.std.proofs.Math.Seq.{take-append_seam}
+use Rattle.std.proofs.Math.Nat.{le-max_right, max-eq_left}
+use Rattle.std.proofs.Math.Seq.{take-append-add, take-append_seam}
 use Rattle.std.specs.Cmp.Lexicographic.{bytes_decides}
 use Rattle.std.specs.List.{position_or_len, list_any}
 use Rattle.std.specs.Prelude.{if◌then◌else◌, ◌||◌}
 use Rattle.std.specs.Str.{bytes_eq}
 use Rattle.flt_c_tokens.specs.Bytes.{Text}
-use Rattle.flt_c_tokens.specs.Spelled.{Knows, has_text, max_spellings, number_of, with_text}
+use Rattle.flt_c_tokens.specs.Spelled.{Knows, first_texts, has_text, max_spellings, number_of, with_text}
 use Rattle.flt_c_tokens.specs.Tokens.{Lexeme, numbered, numbered_on, with_texts}
 use Rattle.flt_c_tokens.specs.Vocabulary.{known_words, vocabulary}
 use Rattle.flt_c_tokens.specs.declared.token.Kind.{Kind}
@@ -140,6 +141,35 @@ words_first f g xs known e h =
 pub words_fit : length known_words ≤ max_spellings
 unfolding known_words
 words_fit = omega arith
+
+pub words_count : {X : Type 0} (f : X → Text) (g : X → Kind) (xs : List X) → map (λ x. (f x, g x)) xs ≡ vocabulary →
+    length xs ≡ length known_words
+unfolding known_words
+words_count f g xs h = sym (length-map xs (λ x. (f x, g x))) ∙ ap length h ∙ sym (length-map vocabulary (λ e. e.0))
+
+-- ---- the first texts
+
+least_length : (known : List Text) → Knows known → length known_words ≤ length known
+least_length known r = subst (λ ts. length known_words ≤ length ts) (sym r.parts) (omega (arith, length-append known_words r.more))
+
+pub first_known : (count : ℕ) (known : List Text) → Knows known → Knows (first_texts count known)
+unfolding first_texts
+first_known count known r =
+    let n = max count (length known_words) in
+    let more = n - length known_words in
+    let e : n ≡ length known_words + more = omega (arith, le-max_right count (length known_words)) in
+    record {
+      more = take more r.more;
+      parts = ap (take n) r.parts ∙ ap (λ m. take m (known_words ++ r.more)) e ∙ take-append-add known_words r.more more;
+    }
+
+-- the texts that a table had are the first of those that it has
+pub taken_back : (before after : List Text) (count : ℕ) → Knows before → count ≡ length before → take (length before) after ≡ before →
+    first_texts count after ≡ before
+unfolding first_texts
+taken_back before after count r long begins =
+    let few : length known_words ≤ count = omega (arith, least_length before r, long) in
+    ap (λ n. take n after) (max-eq_left few ∙ long) ∙ begins
 
 -- ---- the texts of tokens
 

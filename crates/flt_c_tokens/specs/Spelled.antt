@@ -1,5 +1,5 @@
 -- Tables of spellings: texts in the order in which they were first met, each once, the words of C first.
-use Rattle.std.specs.Prelude.{◌≡◌, ℕ, Bool, true, false, if◌then◌else◌, List, [], ◌∷◌, ◌++◌, length, Option, Some, None}
+use Rattle.std.specs.Prelude.{◌≡◌, ℕ, Bool, true, false, if◌then◌else◌, List, [], ◌∷◌, ◌++◌, length, max, take, Option, Some, None}
 use Rattle.std.specs.List.{list_any, position_or_len}
 use Rattle.std.specs.Str.{bytes_eq}
 use Rattle.flt_c_tokens.specs.Bytes.{Text}
@@ -20,6 +20,10 @@ with_text known w = if has_text known w then known else known ++ w ∷ []
 -- the place of a text in a table
 unfoldable pub number_of : List Text → Text → ℕ
 number_of known w = position_or_len (bytes_eq w) known
+
+-- the first texts of a table, with all words of C
+unfoldable pub first_texts : ℕ → List Text → List Text
+first_texts count known = take (max count (length known_words)) known
 
 -- the words of C stand first
 pub record Knows (known : List Text) : Type 0 where

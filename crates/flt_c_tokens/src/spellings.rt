@@ -1,6 +1,6 @@
 //! Spellings by number.
 
-ghost use Rattle.std.specs.Prelude.{◌≡◌, ◌≤◌, length, take, option_copied, slice_get, map, IfOk, IfSome, OnErr};
+ghost use Rattle.std.specs.Prelude.{◌≡◌, ◌≤◌, length, max, option_copied, slice_get, map, IfOk, IfSome, OnErr};
 ghost use Rattle.std.specs.List.{IsDistinct};
 ghost use Rattle.std.specs.Str.{bytes_eq};
 ghost use Rattle.flt_c_tokens.specs.Spelled as spec;
@@ -62,6 +62,14 @@ fn known_texts(alloc: Global) -> Result<IndexSet<Vec<u8>>, AllocError>
     Ok(texts)
 }
 
+/// A count that is at least that of the words of C.
+fn with_words(count: usize) -> usize
+    ensures { result ≡ max count (length known_words) }
+{
+    let words = vocabulary().len();
+    if count < words { words } else { count }
+}
+
 impl Spellings {
     /// The words of C alone.
     pub fn new(alloc: Global) -> Result<Spellings, AllocError>
@@ -115,11 +123,11 @@ impl Spellings {
         Ok(Some(number as u32))
     }
 
-    /// Keeps the first `count` alone.
-    pub(crate) fn truncate(&mut self, count: usize)
-        requires { spec.Knows (take count self.old) }
-        ensures { self.new ≡ take count self.old }
+    /// Keeps the first `count`, and the words of C: so the texts that were added since there were so many go.
+    pub fn truncate(&mut self, count: usize)
+        ensures { self.new ≡ spec.first_texts count self.old }
     {
-        self.texts.truncate(count);
+        let kept = with_words(count);
+        self.texts.truncate(kept);
     }
 }

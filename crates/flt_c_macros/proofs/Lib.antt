@@ -1,0 +1,4 @@
+mod Parts
+mod Passed
+mod Spellings
+mod Steps

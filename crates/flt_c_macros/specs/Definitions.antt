@@ -1,0 +1,118 @@
+-- Lines that define macros, and lines that take them back.
+use Rattle.std.specs.Prelude.{◌≡◌, ◌&&◌, ℕ, Bool, true, false, if◌then◌else◌, List, [], ◌∷◌, ◌++◌, Option, Some, None}
+use Rattle.flt_c_tokens.specs.declared.token.Kind.{Kind}
+use Rattle.flt_c_tokens.specs.declared.token.Kind.TheVariants as k
+use Rattle.flt_c_tokens.specs.declared.token.Token.{Token}
+use Rattle.flt_c_macros.specs.declared.define.Head.{Head}
+use Rattle.flt_c_macros.specs.declared.macros.Macro.{Macro}
+use Rattle.flt_c_macros.specs.declared.macros.Macro.TheVariants.{Undefined, Plain, WithParameters, Undecided}
+use Rattle.flt_c_macros.specs.declared.note.NoteKind.TheVariants.{Malformed, Keyword}
+use Rattle.flt_c_macros.specs.declared.state.State.{State}
+use Rattle.flt_c_macros.specs.Groups.{is_certain}
+use Rattle.flt_c_macros.specs.Kinds.{same_kind}
+use Rattle.flt_c_macros.specs.Macros.{with_macro}
+use Rattle.flt_c_macros.specs.States.{noted}
+
+-- ---- the parts of a line
+
+-- the words that the grammar of C names: no macro has such a name
+abbrev pub is_keyword : Kind → Bool
+is_keyword k.If = true
+is_keyword k.Else = true
+is_keyword k.While = true
+is_keyword k.Do = true
+is_keyword k.For = true
+is_keyword k.Switch = true
+is_keyword k.Case = true
+is_keyword k.Default = true
+is_keyword k.Goto = true
+is_keyword k.Return = true
+is_keyword k.Break = true
+is_keyword k.Continue = true
+is_keyword k.Sizeof = true
+is_keyword k.Typedef = true
+is_keyword k.Struct = true
+is_keyword k.TypeWord = true
+is_keyword k.Qualifier = true
+is_keyword k.Try = true
+is_keyword k.Finally = true
+is_keyword k.Except = true
+is_keyword k.Leave = true
+is_keyword k.Attribute = true
+is_keyword k.Assembler = true
+is_keyword k.Cast = true
+is_keyword k.CPlusPlus = true
+is_keyword _ = false
+
+-- parameters, whether `...` follows them, and the body
+abbrev pub Parts : Type 0
+Parts = List ℕ × Bool × List Token
+
+-- ")" body
+abbrev pub behind_ellipsis : List Token → Option (List Token)
+behind_ellipsis [] = None
+behind_ellipsis (t ∷ i) = if same_kind t.kind k.CloseParen then Some i else None
+
+abbrev pub with_ellipsis : List ℕ → Option (List Token) → Option Parts
+with_ellipsis found None = None
+with_ellipsis found (Some body) = Some (found, true, body)
+
+abbrev mutual
+  -- NAME behind_parameter | "..." ")" body
+  pub parameter : List ℕ → List Token → Option Parts
+  parameter found [] = None
+  parameter found (t ∷ i) =
+      if same_kind t.kind k.Ellipsis then with_ellipsis found (behind_ellipsis i)
+      else (if same_kind t.kind k.Name then behind_parameter (found ++ t.word ∷ []) i else None)
+
+  -- ")" body | "," parameter
+  pub behind_parameter : List ℕ → List Token → Option Parts
+  behind_parameter found [] = None
+  behind_parameter found (t ∷ i) =
+      if same_kind t.kind k.CloseParen then Some (found, false, i)
+      else (if same_kind t.kind k.Comma then parameter found i else None)
+
+-- ")" body | parameter
+abbrev pub parameters : List Token → Option Parts
+parameters [] = None
+parameters (t ∷ i) = if same_kind t.kind k.CloseParen then Some ([], false, i) else parameter [] (t ∷ i)
+
+-- the code's head of a macro
+abbrev pub IsHead : Option Parts → Option Head → Type 0
+IsHead parts None = parts ≡ None
+IsHead parts (Some head) = parts ≡ Some (head.parameters, head.is_open, head.body.now)
+
+abbrev pub macro_by : Option Parts → Option Macro
+macro_by None = None
+macro_by (Some parts) = Some (WithParameters parts.0 parts.1 parts.2)
+
+-- what stands behind a macro's name: a bracket that touches the name opens its parameters
+abbrev pub macro_from : List Token → Option Macro
+macro_from [] = Some (Plain [])
+macro_from (t ∷ i) = if t.is_glued && same_kind t.kind k.OpenParen then macro_by (parameters i) else Some (Plain (t ∷ i))
+
+-- ---- the lines
+
+-- A name's definition. In a branch that isn't decided a line makes nothing known of its name, from there on and in the branch, too: so what
+-- is known is true whichever branches are taken.
+abbrev pub settled : ℕ → Macro → State → State
+settled name what s = record s { macros = with_macro s.macros name (if is_certain s.groups then what else Undecided) }
+
+abbrev pub defined_by : ℕ → Option Macro → Token → State → State
+defined_by name None at s = noted Malformed at s
+defined_by name (Some what) at s = settled name what s
+
+-- a line whose first word is no name
+abbrev pub not_defined : Kind → Token → State → State
+not_defined kind at s = if is_keyword kind then noted Keyword at s else noted Malformed at s
+
+-- #define
+abbrev pub defined : Token → List Token → State → State
+defined at [] s = noted Malformed at s
+defined at (t ∷ i) s = if same_kind t.kind k.Name then defined_by t.word (macro_from i) at s else not_defined t.kind at s
+
+-- #undef
+abbrev pub undefined : Token → List Token → State → State
+undefined at [] s = noted Malformed at s
+undefined at (t ∷ []) s = if same_kind t.kind k.Name then settled t.word Undefined s else not_defined t.kind at s
+undefined at (t ∷ u ∷ i) s = noted Malformed at s

@@ -1,0 +1,15 @@
+pub mod Branches
+pub mod Conditions
+pub mod Definitions
+pub mod Directives
+pub mod Forms
+pub mod Groups
+pub mod Guards
+pub mod Kinds
+pub mod Macros
+pub mod Numbers
+pub mod States
+pub mod Texts
+pub mod Uses
+pub mod Values
+pub mod Whole

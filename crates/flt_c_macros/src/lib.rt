@@ -1,0 +1,29 @@
+//! Directives of C: groups of lines are decided or marked, and macros without parameters are expanded.
+//!
+//! The tokens of a driver's files become tokens without directives (`whole`): lines of directives (`directive`) define macros (`define`,
+//! `macros`) and open groups (`branch`, `groups`), whose conditions (`condition`, `form`, `guard`) are numbers or unknown; the text between them is
+//! expanded (`text`). Macros with parameters are defined, too, but their names stay in the text. These, and whatever couldn't be read, are
+//! noted at their places (`note`).
+#![tactic(auto)]
+
+mod branch;
+mod condition;
+mod define;
+mod directive;
+mod error;
+mod form;
+mod groups;
+mod guard;
+mod kind;
+mod macros;
+mod note;
+mod number;
+mod state;
+mod text;
+mod value;
+mod whole;
+
+pub use error::MacroError;
+pub use kind::spelling;
+pub use note::{Note, NoteKind};
+pub use whole::{Expansion, expanded};
