@@ -1,10 +1,12 @@
-//! Tests of the reader of plain C: the tokens of C files, their directives and items, and the bodies of their functions.
+//! Tests of the reader of plain C: the tokens of C files, their directives and items, the bodies of their functions, and listings of these.
 #![tactic(auto)]
 
 #[cfg(test)]
 mod bodies;
 #[cfg(test)]
 mod cut;
+#[cfg(test)]
+mod functions;
 #[cfg(test)]
 mod items;
 #[cfg(test)]

@@ -1,0 +1,104 @@
+//! The lines of the items of a file.
+
+ghost use Rattle.std.specs.Prelude.{◌≡◌, ◌&&◌, IfOk};
+ghost use Rattle.flt_c_functions.specs.Listing as spec;
+
+use crate::body::{outcome, token_at};
+use crate::line::{put_function, put_unread};
+use crate::source::Source;
+use crate::table::put_table;
+use flt_c_items::{Function, Item, Part};
+use flt_c_syntax::Class;
+use flt_c_tokens::Spellings;
+use std::alloc::{AllocError, Global};
+
+/// Adds the line of a function, and says whether it is read.
+fn put_read(
+    alloc: Global,
+    out: &mut Vec<u8>,
+    spellings: &Spellings,
+    known: &[Class],
+    source: &Source<'_>,
+    item: &Item,
+    function: &Function,
+) -> Result<bool, AllocError>
+    ensures { IfOk result (λ whole.
+        spec.Puts (λ z. spec.IsFunction spellings.now known.now source.now item.now function.now z whole) out.old.items out.new.items) }
+{
+    let tokens = source.tokens.as_slice();
+    let outcome = outcome(alloc, known, tokens, function.body, item.to)?;
+    put_function(out, spellings, source.name, function.name, outcome)?;
+    Ok(outcome.is_none())
+}
+
+/// Adds the lines of an item, and says whether all of it is read.
+fn put_item(
+    alloc: Global,
+    out: &mut Vec<u8>,
+    spellings: &Spellings,
+    known: &[Class],
+    source: &Source<'_>,
+    item: &Item,
+) -> Result<bool, AllocError>
+    ensures { IfOk result (λ whole.
+        spec.Puts (λ z. spec.IsItem spellings.now known.now source.now item.now z whole) out.old.items out.new.items) }
+{
+    match &item.part {
+        Part::Function(function) => {
+            put_read(alloc, out, spellings, known, source, item, function)
+        }
+        Part::Table(table) => {
+            put_table(out, spellings, source.name, source.tokens.as_slice(), table)?;
+            Ok(true)
+        }
+        Part::Unread(reason) => {
+            let token = token_at(source.tokens.as_slice(), item.from);
+            put_unread(out, source.name, token, *reason)?;
+            Ok(false)
+        }
+        Part::Types(_) => Ok(true),
+        Part::Other => Ok(true),
+    }
+}
+
+/// Whether both are true. It is a function of its own, so that a loop over parts has one case.
+pub(crate) fn are_both(first: bool, second: bool) -> bool
+    ensures { result ≡ (first && second) }
+{
+    first && second
+}
+
+/// Adds the lines of items of a file, and says whether all of them is read.
+fn put_items(
+    alloc: Global,
+    out: &mut Vec<u8>,
+    spellings: &Spellings,
+    known: &[Class],
+    source: &Source<'_>,
+    items: &[Item],
+) -> Result<bool, AllocError>
+    ensures { IfOk result (λ whole.
+        spec.Puts (λ z. spec.Each (spec.IsItem spellings.now known.now source.now) items.now z whole) out.old.items out.new.items) }
+{
+    let mut is_whole = true;
+    for item in items {
+        let is_read = put_item(alloc, out, spellings, known, source, item)?;
+        is_whole = are_both(is_whole, is_read);
+    }
+    Ok(is_whole)
+}
+
+/// Adds the lines of a file, and says whether all of it is read.
+pub(crate) fn put_source(
+    alloc: Global,
+    out: &mut Vec<u8>,
+    spellings: &Spellings,
+    known: &[Class],
+    source: &Source<'_>,
+) -> Result<bool, AllocError>
+    ensures { IfOk result (λ whole.
+        spec.Puts (λ z. spec.IsSource spellings.now known.now source.now z whole) out.old.items out.new.items) }
+{
+    let items = source.items.as_slice();
+    put_items(alloc, out, spellings, known, source, items)
+}

@@ -1,0 +1,76 @@
+//! The listing of some files.
+
+ghost use Rattle.std.specs.Prelude.{◌≡◌, ◌++◌, IfOk, MatchResult};
+ghost use Rattle.flt_c_functions.specs.Listing as spec;
+
+use crate::class::{classes, type_names};
+use crate::item::{are_both, put_source};
+use crate::source::{File, Source, add_sources};
+use flt_c_syntax::Class;
+use flt_c_tokens::{Excess, Spellings};
+use std::alloc::{AllocError, Global};
+
+/// The functions and tables that were found, in whole lines, and whether all that was found is read.
+#[derive(Drop)]
+pub struct Listing {
+    pub text: Vec<u8>,
+    pub is_whole: bool,
+}
+
+/// Adds the lines of files, and says whether all of them is read.
+fn put_sources(
+    alloc: Global,
+    out: &mut Vec<u8>,
+    spellings: &Spellings,
+    known: &[Class],
+    sources: &[Source<'_>],
+) -> Result<bool, AllocError>
+    ensures { IfOk result (λ whole.
+        spec.Puts (λ z. spec.Each (spec.IsSource spellings.now known.now) sources.now z whole) out.old.items out.new.items) }
+{
+    let mut is_whole = true;
+    for source in sources {
+        let is_read = put_source(alloc, out, spellings, known, source)?;
+        is_whole = are_both(is_whole, is_read);
+    }
+    Ok(is_whole)
+}
+
+/// The listing of files that are read.
+fn listing_of(
+    alloc: Global,
+    spellings: &Spellings,
+    sources: &[Source<'_>],
+) -> Result<Listing, AllocError>
+    ensures { IfOk result (λ l. spec.AreSources spellings.now sources.now l.text.items l.is_whole) }
+{
+    let types = type_names(alloc, sources)?;
+    let known = classes(alloc, spellings, types.as_slice())?;
+    let mut text = Vec::new(alloc);
+    let is_whole = put_sources(alloc, &mut text, spellings, known.as_slice(), sources)?;
+    Ok(Listing { text, is_whole })
+}
+
+/// The functions and tables of C files, in the order of the files. A line for each function says whether it is read, or where and why
+/// reading stops; a table has a line for each of its rows; and an item that isn't read has a line, too. Names and texts are shown, so that
+/// each line is one. Types that one file names are types in all.
+///
+/// # Errors
+///
+/// `AllocError` if a growth is refused. The number from 0 of the first file that is too large, or whose words are too many together with
+/// those of the files before it, and why.
+pub fn functions(
+    alloc: Global,
+    files: &[File<'_>],
+) -> Result<Result<Listing, (usize, Excess)>, AllocError>
+    ensures { IfOk result (λ found. MatchResult found
+        (λ listing. spec.IsListing files.now listing)
+        (λ refused. spec.IsRefused files.now refused.0 refused.1)) }
+{
+    let mut spellings = Spellings::new(alloc)?;
+    let mut found = Vec::new(alloc);
+    match add_sources(alloc, &mut spellings, files, &mut found)? {
+        Err(refused) => Ok(Err(refused)),
+        Ok(()) => Ok(Ok(listing_of(alloc, &spellings, found.as_slice())?)),
+    }
+}
