@@ -14,7 +14,7 @@ no_declarator = record {
   depth = 0;
   is_empty = true;
   last = 0;
-  of = 0;
+  type_word = 0;
   stars = 0;
   inner = 0;
   is_behind = false;
@@ -35,20 +35,20 @@ inside d t =
     }
 
 -- the last word of the type, where what was the last name is none
-abbrev pub type_word : Declarator → ℕ
-type_word d = if d.last == 0 then d.of else d.last
+abbrev pub last_type_word : Declarator → ℕ
+last_type_word d = if d.last == 0 then d.type_word else d.last
 
 -- A name: the one before it belongs to the type.
 abbrev pub named : Declarator → ℕ → Declarator
-named d word = record d { is_empty = false; last = word; of = type_word d; is_behind = false }
+named d word = record d { is_empty = false; last = word; type_word = last_type_word d; is_behind = false }
 
 -- a word of a type
 abbrev pub typed : Declarator → ℕ → Declarator
-typed d word = record d { is_empty = false; last = 0; of = word; is_behind = false }
+typed d word = record d { is_empty = false; last = 0; type_word = word; is_behind = false }
 
 -- a star
 abbrev pub starred : Declarator → Declarator
-starred d = record d { is_empty = false; last = 0; of = type_word d; stars = min (d.stars + 1) (2 ^ 64 - 1); is_behind = false }
+starred d = record d { is_empty = false; last = 0; type_word = last_type_word d; stars = min (d.stars + 1) (2 ^ 64 - 1); is_behind = false }
 
 -- Another sign or word. Brackets right behind `(*NAME)` are those of a pointer to a function or to an array.
 abbrev pub passed : Kind → Declarator → Declarator
@@ -80,32 +80,33 @@ name_of d = if d.grouped == 0 then d.last else d.grouped
 
 -- the last word of its type, or 0
 abbrev pub type_of : Declarator → ℕ
-type_of d = if d.grouped == 0 then d.of else type_word d
+type_of d = if d.grouped == 0 then d.type_word else last_type_word d
 
 -- ---- the parameters of a function
 
 abbrev pub parameter : Declarator → Parameter
-parameter d = record { name = name_of d; of = type_of d; stars = d.stars }
+parameter d = record { name = name_of d; type_word = type_of d; stars = d.stars }
 
 -- nothing, or `void`, or `VOID`
 abbrev pub is_nothing : Words → Declarator → Bool
 is_nothing words d =
-    d.is_empty || name_of d == 0 && d.of == words.nothing && d.stars == 0 || d.of == 0 && d.last == words.no_value && d.stars == 0
+    d.is_empty || name_of d == 0 && d.type_word == words.nothing && d.stars == 0
+    || d.type_word == 0 && d.last == words.no_value && d.stars == 0
 
 -- behind the last comma
 abbrev pub last_parameter : Words → Declarator → List Parameter
 last_parameter words d = if is_nothing words d then [] else parameter d ∷ []
 
 -- outside of brackets a token of the kind stands
-abbrev pub stands : Kind → Declarator → Token → Bool
-stands kind d t = d.depth == 0 && same_kind t.kind kind
+abbrev pub stands_outside : Kind → Declarator → Token → Bool
+stands_outside kind d t = d.depth == 0 && same_kind t.kind kind
 
 -- the parameters from a declarator on, up to the `)` that closes them
 abbrev pub parameters_from : Words → Declarator → List Token → List Parameter
 parameters_from words d [] = last_parameter words d
 parameters_from words d (t ∷ ts) =
     if d.depth == 0 && closes t.kind then last_parameter words d
-    else (if stands k.Comma d t then parameter d ∷ parameters_from words no_declarator ts
+    else (if stands_outside k.Comma d t then parameter d ∷ parameters_from words no_declarator ts
     else parameters_from words (declared d t) ts)
 
 -- those of the tokens from their `(` on
@@ -123,7 +124,7 @@ some_name word = if word == 0 then [] else word ∷ []
 abbrev pub names_from : Declarator → List Token → List ℕ
 names_from d [] = some_name (name_of d)
 names_from d (t ∷ ts) =
-    if stands k.Comma d t then some_name (name_of d) ++ names_from no_declarator ts else names_from (declared d t) ts
+    if stands_outside k.Comma d t then some_name (name_of d) ++ names_from no_declarator ts else names_from (declared d t) ts
 
 -- those of the tokens behind `typedef`
 unfoldable pub names : List Token → List ℕ

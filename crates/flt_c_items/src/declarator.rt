@@ -17,7 +17,7 @@ pub(crate) struct Declarator {
     /// The last name outside of brackets, unless a star or a word of a type comes after it.
     pub last: u32,
     /// The last word of its type before that.
-    pub of: u32,
+    pub type_word: u32,
     /// The number of stars outside of brackets.
     pub stars: usize,
     /// The last name in the brackets that were opened last outside of others, but in no further ones.
@@ -36,7 +36,7 @@ pub(crate) fn no_declarator() -> Declarator
         depth: 0,
         is_empty: true,
         last: 0,
-        of: 0,
+        type_word: 0,
         stars: 0,
         inner: 0,
         is_behind: false,
@@ -63,10 +63,10 @@ fn inside(d: Declarator, token: Token) -> Declarator
 }
 
 /// The word before a star or a word of a type, which is no name.
-fn type_word(d: Declarator) -> u32
-    ensures { result ≡ spec.type_word d }
+fn last_type_word(d: Declarator) -> u32
+    ensures { result ≡ spec.last_type_word d }
 {
-    if d.last == 0 { d.of } else { d.last }
+    if d.last == 0 { d.type_word } else { d.last }
 }
 
 /// A declarator after a name, to whose type the name before belongs.
@@ -76,7 +76,7 @@ fn named(d: Declarator, word: u32) -> Declarator
     Declarator {
         is_empty: false,
         last: word,
-        of: type_word(d),
+        type_word: last_type_word(d),
         is_behind: false,
         ..d
     }
@@ -89,7 +89,7 @@ fn typed(d: Declarator, word: u32) -> Declarator
     Declarator {
         is_empty: false,
         last: 0,
-        of: word,
+        type_word: word,
         is_behind: false,
         ..d
     }
@@ -102,7 +102,7 @@ fn starred(d: Declarator) -> Declarator
     Declarator {
         is_empty: false,
         last: 0,
-        of: type_word(d),
+        type_word: last_type_word(d),
         stars: d.stars.saturating_add(1),
         is_behind: false,
         ..d
@@ -155,12 +155,16 @@ pub(crate) fn name_of(d: Declarator) -> u32
 pub(crate) fn type_of(d: Declarator) -> u32
     ensures { result ≡ spec.type_of d }
 {
-    if d.grouped == 0 { d.of } else { type_word(d) }
+    if d.grouped == 0 {
+        d.type_word
+    } else {
+        last_type_word(d)
+    }
 }
 
 /// Whether the token is of the kind, and outside of brackets.
-pub(crate) fn stands(kind: Kind, d: Declarator, token: Token) -> bool
-    ensures { result ≡ spec.stands kind d token }
+pub(crate) fn stands_outside(kind: Kind, d: Declarator, token: Token) -> bool
+    ensures { result ≡ spec.stands_outside kind d token }
 {
     d.depth == 0 && same_kind(token.kind, kind)
 }

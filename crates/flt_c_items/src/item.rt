@@ -9,7 +9,7 @@ use sqlite_items::Items;
 pub struct Parameter {
     pub name: u32,
     /// The last word of its type, as `INT` of `CONST INT *x`.
-    pub of: u32,
+    pub type_word: u32,
     /// The number of stars outside of brackets.
     pub stars: usize,
 }

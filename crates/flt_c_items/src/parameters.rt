@@ -3,7 +3,7 @@
 ghost use Rattle.std.specs.Prelude.{◌≡◌, ◌++◌, IfOk, OnOk};
 ghost use Rattle.flt_c_items.specs.Declarators as spec;
 
-use crate::declarator::{Declarator, declared, name_of, no_declarator, stands, type_of};
+use crate::declarator::{Declarator, declared, name_of, no_declarator, stands_outside, type_of};
 use crate::item::Parameter;
 use crate::kind::closes;
 use crate::words::Words;
@@ -17,7 +17,7 @@ fn parameter(d: Declarator) -> Parameter
 {
     Parameter {
         name: name_of(d),
-        of: type_of(d),
+        type_word: type_of(d),
         stars: d.stars,
     }
 }
@@ -27,8 +27,8 @@ fn is_nothing(words: &Words, d: Declarator) -> bool
     ensures { result ≡ spec.is_nothing words.now d }
 {
     d.is_empty
-        || name_of(d) == 0 && d.of == words.nothing && d.stars == 0
-        || d.of == 0 && d.last == words.no_value && d.stars == 0
+        || name_of(d) == 0 && d.type_word == words.nothing && d.stars == 0
+        || d.type_word == 0 && d.last == words.no_value && d.stars == 0
 }
 
 /// Adds the last parameter, if there is one.
@@ -57,7 +57,7 @@ fn parameters_behind(
             add_last(words, d, &mut found)?;
             return Ok(found);
         }
-        if stands(Kind::Comma, d, *token) {
+        if stands_outside(Kind::Comma, d, *token) {
             found.push(parameter(d))?;
             d = no_declarator();
         } else {
@@ -103,7 +103,7 @@ pub(crate) fn names(alloc: Global, tokens: &[Token]) -> Result<Items<u32>, Alloc
     let mut d = no_declarator();
     let mut rest = tokens;
     while let [token, after @ ..] = rest {
-        if stands(Kind::Comma, d, *token) {
+        if stands_outside(Kind::Comma, d, *token) {
             add_name(name_of(d), &mut found)?;
             d = no_declarator();
         } else {

@@ -134,7 +134,7 @@ fn put_parameter(out: &mut String, alloc: Global, p: &Parameter) -> Result<(), A
     out.push(' ')?;
     put_word(out, alloc, p.name)?;
     out.push(':')?;
-    put_word(out, alloc, p.of)?;
+    put_word(out, alloc, p.type_word)?;
     for _ in 0..p.stars {
         out.push('*')?;
     }
