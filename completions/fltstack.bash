@@ -45,7 +45,7 @@ _fltstack() {
         if [[ $word == -* ]]; then
             _fltstack_words --help --version
         else
-            _fltstack_words check analyse thin explain run replay extract format emit compare serve help
+            _fltstack_words check analyse thin explain run replay extract format emit compare draft serve help
         fi
         return
     fi
@@ -99,6 +99,11 @@ _fltstack() {
     compare)
         options='--help'
         ;;
+    draft)
+        options='--functions --define --undef --help'
+        valued='--define --undef'
+        repeated='--define --undef'
+        ;;
     serve)
         options='--help'
         ;;
@@ -149,7 +154,8 @@ _fltstack() {
         'emit 0') _fltstack_files .flt ;;
         'emit 1') _fltstack_files .cert ;;
         'compare '*) _fltstack_files .c .h .cc .cpp ;;
-        'help 0') _fltstack_words check analyse thin explain run replay extract format emit compare serve help ;;
+        'draft '*) _fltstack_files .c .h .cc .cpp ;;
+        'help 0') _fltstack_words check analyse thin explain run replay extract format emit compare draft serve help ;;
         esac
     fi
 }

@@ -13,7 +13,7 @@ function __fltstack_operands --argument-names command
             echo -- $word
         else if test $word = --
             set is_operand yes
-        else if contains -- $word --form --color --states --journal --allow --workers --svg --part --into
+        else if contains -- $word --form --color --states --journal --allow --workers --svg --part --into --define --undef
             set is_value yes
         end
     end
@@ -34,7 +34,7 @@ function __fltstack_after --argument-names command
     set -l words (string replace -r -- '=.*' '' (commandline -opc))
     test "$words[2]" = "$command"; or return 1
     # The value of the last word may be at the cursor.
-    contains -- $words[-1] --form --color --states --journal --allow --workers --svg --part --into; and set -e words[-1]
+    contains -- $words[-1] --form --color --states --journal --allow --workers --svg --part --into --define --undef; and set -e words[-1]
     for option in $argv[2..]
         contains -- $option $words; and return 1
     end
@@ -155,6 +155,7 @@ complete -c fltstack -n '__fltstack_first' -a format -d 'Lays out filters\' text
 complete -c fltstack -n '__fltstack_first' -a emit \
     -d 'Prints the C source of the driver that a filter\'s text is, its user\'s header or its INF file'
 complete -c fltstack -n '__fltstack_first' -a compare -d 'Reports where the code of C files and their annotations differ'
+complete -c fltstack -n '__fltstack_first' -a draft -d 'Lists the functions and the tables of registrations that it can read in plain C'
 complete -c fltstack -n '__fltstack_first' -a serve -d 'Serves an editor'
 complete -c fltstack -n '__fltstack_first' -a help -d 'Print this message or the help of the given subcommand(s)'
 complete -c fltstack -n '__fltstack_first' -s h -l help -d 'Print help'
@@ -232,8 +233,16 @@ complete -c fltstack -n '__fltstack_at emit 1' -a '(__fltstack_files .cert)'
 complete -c fltstack -n '__fltstack_after compare --help' -s h -l help -d 'Print help'
 complete -c fltstack -n '__fltstack_at compare 0+' -a '(__fltstack_files .c .h .cc .cpp)'
 
+# draft
+complete -c fltstack -n '__fltstack_after draft --functions' -l functions -d 'Say of each function whether it can be read'
+complete -c fltstack -n '__fltstack_after draft' -l define -x -d 'Define a macro before each FILE, as 1 without VALUE'
+complete -c fltstack -n '__fltstack_after draft' -l undef -x \
+    -d 'Take a name for no macro at the beginning of each FILE, whatever `--define` says'
+complete -c fltstack -n '__fltstack_after draft --help' -s h -l help -d 'Print help'
+complete -c fltstack -n '__fltstack_at draft 0+' -a '(__fltstack_files .c .h .cc .cpp)'
+
 # serve
 complete -c fltstack -n '__fltstack_after serve --help' -s h -l help -d 'Print help'
 
 # help
-complete -c fltstack -n '__fltstack_at help 0' -a 'check analyse thin explain run replay extract format emit compare serve help'
+complete -c fltstack -n '__fltstack_at help 0' -a 'check analyse thin explain run replay extract format emit compare draft serve help'

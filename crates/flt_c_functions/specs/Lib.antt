@@ -1,7 +1,12 @@
+pub mod Bare
 pub mod Classes
+pub mod Laws
 pub mod Lines
 pub mod Listing
+pub mod Notes
+pub mod Options
 pub mod Outcomes
 pub mod Reasons
 pub mod Sources
+pub mod Strays
 pub mod Texts

@@ -1,5 +1,5 @@
 -- The lines of a listing. This project's own program.
-use Rattle.std.specs.Prelude.{ℕ, ◌==◌, if◌then◌else◌, List, [], ◌∷◌, ◌++◌, codes, decimal, flat_map, Option, Some, None}
+use Rattle.std.specs.Prelude.{ℕ, ◌==◌, Bool, if◌then◌else◌, List, [], ◌∷◌, ◌++◌, codes, decimal, flat_map, Option, Some, None}
 use Rattle.flt_shown.specs.Shown.{shown}
 use Rattle.flt_c_tokens.specs.Bytes.{Text}
 use Rattle.flt_c_tokens.specs.declared.token.Token.{Token}
@@ -25,17 +25,21 @@ place name t = shown name ++ (codes ":" ++ (decimal t.line ++ (codes ":" ++ (dec
 unfoldable pub stop_text : Place → Text
 stop_text place = codes "stops at line " ++ (decimal place.line ++ (codes ", column " ++ (decimal place.column ++ codes ": ")))
 
-abbrev pub fault_text : Fault → Text
-fault_text f = stop_text f.place ++ reason_words f.reason
+-- what helps where a line of an `#if` is in a statement
+abbrev pub cut_text : Bool → Text
+cut_text cut = if cut then codes "; --define or --undef may decide this #if" else []
 
-abbrev pub outcome_text : Option Fault → Text
-outcome_text None = codes "read"
-outcome_text (Some f) = fault_text f
+unfoldable pub fault_text : Fault → Bool → Text
+fault_text f cut = stop_text f.place ++ (reason_words f.reason ++ cut_text cut)
+
+abbrev pub outcome_text : Option Fault → Bool → Text
+outcome_text None cut = codes "read"
+outcome_text (Some f) cut = fault_text f cut
 
 -- the line of a function, at its name
-unfoldable pub function_line : List Text → Text → Token → Option Fault → Text
-function_line texts name t outcome =
-    place name t ++ (codes "function " ++ (token_text texts t ++ (codes ": " ++ (outcome_text outcome ++ codes "\n"))))
+unfoldable pub function_line : List Text → Text → Token → Option Fault → Bool → Text
+function_line texts name t outcome cut =
+    place name t ++ (codes "function " ++ (token_text texts t ++ (codes ": " ++ (outcome_text outcome cut ++ codes "\n"))))
 
 -- ---- tables
 

@@ -1,10 +1,11 @@
 //! The outcome of a function's body.
 
 ghost use Rattle.std.specs.Prelude.{◌≡◌, IfOk};
+ghost use Rattle.std.specs.List.{list_any};
 ghost use Rattle.flt_c_items.specs.Rows as rows;
 ghost use Rattle.flt_c_functions.specs.Outcomes as spec;
 
-use flt_c_syntax::{Class, Fault, ReadError, read_body};
+use flt_c_syntax::{Class, Fault, Place, ReadError, read_body};
 use flt_c_tokens::{Kind, Token};
 use std::alloc::{AllocError, Global};
 
@@ -87,4 +88,34 @@ pub(crate) fn outcome(
 {
     let body = body_tokens(alloc, tokens, from, to)?;
     outcome_of(alloc, known, body.as_slice())
+}
+
+/// Whether a kind of token is a line of an `#if` that nothing decides.
+fn is_mark(kind: Kind) -> bool
+    ensures { result ≡ spec.is_mark kind }
+{
+    matches!(kind, Kind::GroupIf | Kind::GroupElse | Kind::GroupEnd)
+}
+
+fn is_mark_at(place: Place, token: Token) -> bool
+    ensures { result ≡ spec.is_mark_at place token }
+{
+    is_mark(token.kind) && token.line == place.line && token.column == place.column
+}
+
+/// Whether such a line is at a place.
+fn has_mark_at(tokens: &[Token], place: Place) -> bool
+    ensures { result ≡ list_any (spec.is_mark_at place) tokens.now }
+{
+    tokens.iter().any(|token| is_mark_at(place, *token))
+}
+
+/// Whether reading stops at a line of an `#if`.
+pub(crate) fn is_cut(tokens: &[Token], outcome: Option<Fault>) -> bool
+    ensures { result ≡ spec.is_cut tokens.now outcome }
+{
+    match outcome {
+        None => false,
+        Some(fault) => has_mark_at(tokens, fault.place),
+    }
 }

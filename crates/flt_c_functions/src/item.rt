@@ -3,9 +3,12 @@
 ghost use Rattle.std.specs.Prelude.{◌≡◌, ◌&&◌, IfOk};
 ghost use Rattle.flt_c_functions.specs.Listing as spec;
 
-use crate::body::{outcome, token_at};
+use crate::bare::{bare_table, put_bare};
+use crate::body::{is_cut, outcome, stretch, token_at};
 use crate::line::{put_function, put_unread};
+use crate::note::put_notes;
 use crate::source::Source;
+use crate::stray::{put_stray, stray_in};
 use crate::table::put_table;
 use flt_c_items::{Function, Item, Part};
 use flt_c_syntax::Class;
@@ -27,12 +30,28 @@ fn put_read(
 {
     let tokens = source.tokens.as_slice();
     let outcome = outcome(alloc, known, tokens, function.body, item.to)?;
-    put_function(out, spellings, source.name, function.name, outcome)?;
+    let is_cut = is_cut(stretch(tokens, function.body, item.to), outcome);
+    put_function(out, spellings, source.name, function.name, outcome, is_cut)?;
     Ok(outcome.is_none())
 }
 
-/// Adds the lines of an item, and says whether all of it is read.
-fn put_item(
+/// Adds the line of a table whose rows are elsewhere, if a declaration has one, and says whether it has none.
+fn put_other(
+    out: &mut Vec<u8>,
+    spellings: &Spellings,
+    source: &Source<'_>,
+    item: &Item,
+) -> Result<bool, AllocError>
+    ensures { IfOk result (λ whole. spec.Puts (λ z. spec.IsOther spellings.now source.now item.now z whole) out.old.items out.new.items) }
+{
+    let tokens = stretch(source.tokens.as_slice(), item.from, item.to);
+    let table = bare_table(&source.words, tokens);
+    put_bare(out, spellings, source.name, table)?;
+    Ok(table.is_none())
+}
+
+/// Adds the lines of what an item is, and says whether all of it is read.
+fn put_part(
     alloc: Global,
     out: &mut Vec<u8>,
     spellings: &Spellings,
@@ -41,7 +60,7 @@ fn put_item(
     item: &Item,
 ) -> Result<bool, AllocError>
     ensures { IfOk result (λ whole.
-        spec.Puts (λ z. spec.IsItem spellings.now known.now source.now item.now z whole) out.old.items out.new.items) }
+        spec.Puts (λ z. spec.IsPart spellings.now known.now source.now item.now item.now.part z whole) out.old.items out.new.items) }
 {
     match &item.part {
         Part::Function(function) => {
@@ -57,8 +76,26 @@ fn put_item(
             Ok(false)
         }
         Part::Types(_) => Ok(true),
-        Part::Other => Ok(true),
+        Part::Other => put_other(out, spellings, source, item),
     }
+}
+
+/// Adds the lines of an item, the first of which is about a place that is no token of C.
+fn put_item(
+    alloc: Global,
+    out: &mut Vec<u8>,
+    spellings: &Spellings,
+    known: &[Class],
+    source: &Source<'_>,
+    item: &Item,
+) -> Result<bool, AllocError>
+    ensures { IfOk result (λ whole.
+        spec.Puts (λ z. spec.IsItem spellings.now known.now source.now item.now z whole) out.old.items out.new.items) }
+{
+    let stray = stray_in(source.tokens.as_slice(), item);
+    put_stray(out, source.name, stray)?;
+    let is_read = put_part(alloc, out, spellings, known, source, item)?;
+    Ok(are_both(stray.is_none(), is_read))
 }
 
 /// Whether both are true. It is a function of its own, so that a loop over parts has one case.
@@ -97,8 +134,11 @@ pub(crate) fn put_source(
     source: &Source<'_>,
 ) -> Result<bool, AllocError>
     ensures { IfOk result (λ whole.
-        spec.Puts (λ z. spec.IsSource spellings.now known.now source.now z whole) out.old.items out.new.items) }
+        spec.Puts (λ z. spec.IsSourceText spellings.now known.now source.now z whole) out.old.items out.new.items) }
 {
+    let notes = source.notes.as_slice();
+    put_notes(out, spellings, source.name, notes)?;
     let items = source.items.as_slice();
-    put_items(alloc, out, spellings, known, source, items)
+    let is_read = put_items(alloc, out, spellings, known, source, items)?;
+    Ok(are_both(notes.is_empty(), is_read))
 }

@@ -1,20 +1,28 @@
 //! Which functions and tables of some C files are read, as a listing: each function with the place where reading stops, and each table of
 //! registrations with its rows.
 //!
-//! The files share one table of texts (`source`), and the types that any of them names (`class`) are known before a body is read (`body`).
-//! A listing has the lines of all items in order (`listing`, by `item` and `table`), written from pieces (`line`, `text`, `reason`).
+//! Options are lines of directives before each file (`option`). The files share one table of texts (`source`), and the types that any of
+//! them names (`class`) are known before a body is read (`body`). A listing has the lines of notes on directives and macros (`note`), and then
+//! those of all items in order (`listing`, by `item`, `table`, `bare` and `stray`), written from pieces (`line`, `text`, `reason`). The same
+//! files have one listing at most (`laws`).
 #![tactic(auto)]
 
+mod bare;
 mod body;
 mod class;
 mod item;
+mod laws;
 mod line;
 mod listing;
+mod note;
+mod option;
 mod reason;
 mod source;
+mod stray;
 mod table;
 mod text;
 mod words;
 
+pub use laws::lists_at_most_one;
 pub use listing::{Listing, functions};
-pub use source::File;
+pub use option::Options;

@@ -52,21 +52,34 @@ fn put_stop(out: &mut Vec<u8>, place: Place) -> Result<(), AllocError>
     put(out, b": ")
 }
 
+/// The options that help if a line of an `#if` is in a statement.
+fn cut_text(is_cut: bool) -> &'static [u8]
+    ensures { result.now ≡ spec.cut_text is_cut }
+{
+    if is_cut {
+        b"; --define or --undef may decide this #if"
+    } else {
+        b""
+    }
+}
+
 /// Adds where and why reading stops.
-fn put_fault(out: &mut Vec<u8>, fault: Fault) -> Result<(), AllocError>
-    ensures { OnOk result (out.new.items ≡ out.old.items ++ spec.fault_text fault) }
+#[tactic(auto, unfolding(crate::specs::Lines::fault_text))]
+fn put_fault(out: &mut Vec<u8>, fault: Fault, is_cut: bool) -> Result<(), AllocError>
+    ensures { OnOk result (out.new.items ≡ out.old.items ++ spec.fault_text fault is_cut) }
 {
     put_stop(out, fault.place)?;
-    put(out, reason_words(fault.reason))
+    put(out, reason_words(fault.reason))?;
+    put(out, cut_text(is_cut))
 }
 
 /// Adds whether a function is read, or where and why reading stops.
-fn put_outcome(out: &mut Vec<u8>, outcome: Option<Fault>) -> Result<(), AllocError>
-    ensures { OnOk result (out.new.items ≡ out.old.items ++ spec.outcome_text outcome) }
+fn put_outcome(out: &mut Vec<u8>, outcome: Option<Fault>, is_cut: bool) -> Result<(), AllocError>
+    ensures { OnOk result (out.new.items ≡ out.old.items ++ spec.outcome_text outcome is_cut) }
 {
     match outcome {
         None => put(out, b"read"),
-        Some(fault) => put_fault(out, fault),
+        Some(fault) => put_fault(out, fault, is_cut),
     }
 }
 
@@ -78,14 +91,15 @@ pub(crate) fn put_function(
     name: &str,
     token: Token,
     outcome: Option<Fault>,
+    is_cut: bool,
 ) -> Result<(), AllocError>
-    ensures { OnOk result (out.new.items ≡ out.old.items ++ spec.function_line spellings.now name.now token outcome) }
+    ensures { OnOk result (out.new.items ≡ out.old.items ++ spec.function_line spellings.now name.now token outcome is_cut) }
 {
     put_place(out, name, token)?;
     put(out, b"function ")?;
     put_token(out, spellings, token)?;
     put(out, b": ")?;
-    put_outcome(out, outcome)?;
+    put_outcome(out, outcome, is_cut)?;
     put(out, b"\n")
 }
 

@@ -1,11 +1,13 @@
 //! The listing of some files.
 
-ghost use Rattle.std.specs.Prelude.{◌≡◌, ◌++◌, IfOk, MatchResult};
+ghost use Rattle.std.specs.Prelude.{◌≡◌, ◌++◌, IfOk, MatchResult, map};
 ghost use Rattle.flt_c_functions.specs.Listing as spec;
+ghost use Rattle.flt_c_functions.specs.Options.{lines_by};
 
 use crate::class::{classes, type_names};
 use crate::item::{are_both, put_source};
-use crate::source::{File, Source, add_sources};
+use crate::option::{Options, lines_of};
+use crate::source::{Source, read_sources};
 use flt_c_syntax::Class;
 use flt_c_tokens::{Excess, Spellings};
 use std::alloc::{AllocError, Global};
@@ -26,7 +28,7 @@ fn put_sources(
     sources: &[Source<'_>],
 ) -> Result<bool, AllocError>
     ensures { IfOk result (λ whole.
-        spec.Puts (λ z. spec.Each (spec.IsSource spellings.now known.now) sources.now z whole) out.old.items out.new.items) }
+        spec.Puts (λ z. spec.Each (spec.IsSourceText spellings.now known.now) sources.now z whole) out.old.items out.new.items) }
 {
     let mut is_whole = true;
     for source in sources {
@@ -51,9 +53,11 @@ fn listing_of(
     Ok(Listing { text, is_whole })
 }
 
-/// The functions and tables of C files, in the order of the files. A line for each function says whether it is read, or where and why
-/// reading stops; a table has a line for each of its rows; and an item that isn't read has a line, too. Names and texts are shown, so that
-/// each line is one. Types that one file names are types in all.
+/// The functions and tables of C files, in the order of the files, each of which is read after the lines of directives that the options
+/// are. `names` has the names of the files, by which the listing calls them; a name that ends with `.cc` or `.cpp` is that of a C++ file, and
+/// in all others words of C++ are names. The first lines of a file are about directives and macros that aren't read. A line for each
+/// function says whether it is read, or where and why reading stops; a table has a line for each of its rows; and an item that isn't read has
+/// a line, too. Names and texts are shown, so that each line is one. Types that one file names are types in all.
 ///
 /// # Errors
 ///
@@ -61,16 +65,19 @@ fn listing_of(
 /// those of the files before it, and why.
 pub fn functions(
     alloc: Global,
-    files: &[File<'_>],
+    options: Options<'_>,
+    names: &[&str],
+    files: &[Vec<u8>],
 ) -> Result<Result<Listing, (usize, Excess)>, AllocError>
     ensures { IfOk result (λ found. MatchResult found
-        (λ listing. spec.IsListing files.now listing)
-        (λ refused. spec.IsRefused files.now refused.0 refused.1)) }
+        (λ listing. spec.IsListing (lines_by options.entry) (map (λ name. name.now) names.now) (map (λ file. file.items) files.now) listing)
+        (λ refused. spec.IsRefused (lines_by options.entry) (map (λ name. name.now) names.now) (map (λ file. file.items) files.now)
+        refused.0 refused.1)) }
 {
+    let lines = lines_of(alloc, options)?;
     let mut spellings = Spellings::new(alloc)?;
-    let mut found = Vec::new(alloc);
-    match add_sources(alloc, &mut spellings, files, &mut found)? {
+    match read_sources(alloc, &mut spellings, lines.as_slice(), names, files)? {
         Err(refused) => Ok(Err(refused)),
-        Ok(()) => Ok(Ok(listing_of(alloc, &spellings, found.as_slice())?)),
+        Ok(found) => Ok(Ok(listing_of(alloc, &spellings, found.as_slice())?)),
     }
 }

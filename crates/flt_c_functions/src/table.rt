@@ -11,7 +11,7 @@ use flt_c_tokens::{Spellings, Token};
 use flt_shown::put_shown;
 use std::alloc::AllocError;
 
-fn kind_words(kind: TableKind) -> &'static [u8]
+pub(crate) fn kind_words(kind: TableKind) -> &'static [u8]
     ensures { result.now ≡ spec.kind_words kind }
 {
     match kind {

@@ -2,3 +2,5 @@ mod Parts
 mod Passed
 mod Spellings
 mod Steps
+mod Turns
+mod Uses

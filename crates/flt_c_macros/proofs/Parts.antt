@@ -1,30 +1,10 @@
--- Parts of tokens, and bodies within bodies.
-use Rattle.std.proofs.Common.{◌≡◌, ℕ, zero, suc, ◌+◌, ◌-◌, ◌<◌, ◌≤◌, Bool, true, List, [], ◌∷◌, ◌++◌, length, take, drop, get_or}
+-- Parts of tokens.
+use Rattle.std.proofs.Common.{◌≡◌, ℕ, suc, ◌+◌, ◌-◌, ◌<◌, ◌≤◌, List, [], ◌∷◌, ◌++◌, length, take, drop, get_or}
 use Rattle.std.proofs.Common.{refl, ap, ◌∙◌, arith, length-drop}
 use Rattle.std.specs.Prelude.{slice_range}
 use Rattle.std.proofs.Math.Seq.{take-suc}
 use Rattle.std.proofs.lemmas.List.{get_or-drop}
 use Rattle.flt_c_tokens.specs.declared.token.Token.{Token}
-use Rattle.flt_c_macros.specs.declared.text.Work.{Work}
-use Rattle.flt_c_macros.specs.Macros.{Known}
-use Rattle.flt_c_macros.specs.Uses.{spread, each, expanded, found, over}
-
-pub spread_none : (kept : List Bool) (macros : Known) (busy : List ℕ) (body : List Token) (w : Work) →
-    spread kept macros 0 busy body w ≡ over w
-unfolding spread
-spread_none kept macros busy body w = refl
-
-pub spread_step : (kept : List Bool) (macros : Known) (depth : ℕ) (busy : List ℕ) (body : List Token) (w : Work) → 0 < depth →
-    spread kept macros depth busy body w
-    ≡ each (λ t v. expanded (spread kept macros (depth - 1)) busy t (found kept macros busy t) v) body w
-unfolding spread
-spread_step kept macros zero busy body w some = absurd (omega arith)
-spread_step kept macros (suc n) busy body w some = let e : suc n - 1 ≡ n = omega arith in rw e refl
-
--- behind a limit
-pub each_over : (expand : Token → Work → Work) (body : List Token) (w : Work) → w.is_over ≡ true → each expand body w ≡ w
-each_over expand [] w passed = refl
-each_over expand (t ∷ i) w passed = rw passed refl
 
 -- one token more
 pub range_more : (tokens : List Token) (start i : ℕ) (t : Token) → start ≤ i → i < length tokens →

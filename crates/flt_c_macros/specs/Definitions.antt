@@ -1,8 +1,9 @@
 -- Lines that define macros, and lines that take them back.
-use Rattle.std.specs.Prelude.{◌≡◌, ◌&&◌, ℕ, Bool, true, false, if◌then◌else◌, List, [], ◌∷◌, ◌++◌, Option, Some, None}
+use Rattle.std.specs.Prelude.{◌≡◌, ◌&&◌, ℕ, Bool, true, false, if◌then◌else◌, List, [], ◌∷◌, ◌++◌, Option, Some, None, codes}
 use Rattle.flt_c_tokens.specs.declared.token.Kind.{Kind}
 use Rattle.flt_c_tokens.specs.declared.token.Kind.TheVariants as k
 use Rattle.flt_c_tokens.specs.declared.token.Token.{Token}
+use Rattle.flt_c_tokens.specs.Spelled.{has_text, number_of}
 use Rattle.flt_c_macros.specs.declared.define.Head.{Head}
 use Rattle.flt_c_macros.specs.declared.macros.Macro.{Macro}
 use Rattle.flt_c_macros.specs.declared.macros.Macro.TheVariants.{Undefined, Plain, WithParameters, Undecided}
@@ -12,6 +13,7 @@ use Rattle.flt_c_macros.specs.Groups.{is_certain}
 use Rattle.flt_c_macros.specs.Kinds.{same_kind}
 use Rattle.flt_c_macros.specs.Macros.{with_macro}
 use Rattle.flt_c_macros.specs.States.{noted}
+use Rattle.flt_c_macros.specs.Texts.{Texts}
 
 -- ---- the parts of a line
 
@@ -82,14 +84,24 @@ abbrev pub IsHead : Option Parts → Option Head → Type 0
 IsHead parts None = parts ≡ None
 IsHead parts (Some head) = parts ≡ Some (head.parameters, head.is_open, head.body.now)
 
-abbrev pub macro_by : Option Parts → Option Macro
-macro_by None = None
-macro_by (Some parts) = Some (WithParameters parts.0 parts.1 parts.2)
+-- The name by which a body has the arguments behind the named ones: the number of `__VA_ARGS__`. If it has none, no body has the name: then
+-- it is 0, the number of a word of C.
+abbrev pub rest_name : Texts → ℕ
+rest_name texts = let name = codes "__VA_ARGS__" in if has_text texts name then number_of texts name else 0
+
+-- these arguments are those of one more parameter
+abbrev pub macro_with : ℕ → Parts → Macro
+macro_with rest parts =
+    if parts.1 then WithParameters (parts.0 ++ rest ∷ []) (Some rest) parts.2 else WithParameters parts.0 None parts.2
+
+abbrev pub macro_by : Texts → Option Parts → Option Macro
+macro_by texts None = None
+macro_by texts (Some parts) = Some (macro_with (rest_name texts) parts)
 
 -- what stands behind a macro's name: a bracket that touches the name opens its parameters
-abbrev pub macro_from : List Token → Option Macro
-macro_from [] = Some (Plain [])
-macro_from (t ∷ i) = if t.is_glued && same_kind t.kind k.OpenParen then macro_by (parameters i) else Some (Plain (t ∷ i))
+abbrev pub macro_from : Texts → List Token → Option Macro
+macro_from texts [] = Some (Plain [])
+macro_from texts (t ∷ i) = if t.is_glued && same_kind t.kind k.OpenParen then macro_by texts (parameters i) else Some (Plain (t ∷ i))
 
 -- ---- the lines
 
@@ -107,9 +119,9 @@ abbrev pub not_defined : Kind → Token → State → State
 not_defined kind at s = if is_keyword kind then noted Keyword at s else noted Malformed at s
 
 -- #define
-abbrev pub defined : Token → List Token → State → State
-defined at [] s = noted Malformed at s
-defined at (t ∷ i) s = if same_kind t.kind k.Name then defined_by t.word (macro_from i) at s else not_defined t.kind at s
+abbrev pub defined : Texts → Token → List Token → State → State
+defined texts at [] s = noted Malformed at s
+defined texts at (t ∷ i) s = if same_kind t.kind k.Name then defined_by t.word (macro_from texts i) at s else not_defined t.kind at s
 
 -- #undef
 abbrev pub undefined : Token → List Token → State → State

@@ -27,7 +27,7 @@ command texts t =
     else (if same_kind t.kind k.Name then lookup (text_of texts t.word) (map (λ e. (e.0.now, e.1)) COMMANDS) else c.Other))
 
 abbrev pub directive_by : Command → Token → List Token → List Token → World → Outcome World
-directive_by c.Define at line after w = Ok (w.0, if is_read w.1.groups then defined at line w.1 else w.1)
+directive_by c.Define at line after w = Ok (w.0, if is_read w.1.groups then defined w.0 at line w.1 else w.1)
 directive_by c.Undefine at line after w = Ok (w.0, if is_read w.1.groups then undefined at line w.1 else w.1)
 directive_by (c.Open form) at line after w = opened at form line after w
 directive_by (c.Part form) at line after w = parted at form line w

@@ -1,3 +1,5 @@
+pub mod Arguments
+pub mod Bodies
 pub mod Branches
 pub mod Conditions
 pub mod Definitions
@@ -5,8 +7,11 @@ pub mod Directives
 pub mod Forms
 pub mod Groups
 pub mod Guards
+pub mod Items
 pub mod Kinds
+pub mod Machines
 pub mod Macros
+pub mod Notes
 pub mod Numbers
 pub mod States
 pub mod Texts

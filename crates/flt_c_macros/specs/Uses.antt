@@ -1,19 +1,36 @@
 -- Uses of macros in text, and what they are expanded to.
-use Rattle.std.specs.Prelude.{ℕ, zero, suc, ◌-◌, nat_eq, nat_lt, Bool, true, false, not, ◌&&◌, if◌then◌else◌}
-use Rattle.std.specs.Prelude.{List, [], ◌∷◌, ◌++◌, length, slice_index_or, Option, Some, None}
-use Rattle.std.specs.List.{list_any}
+--
+-- Each token of text that names a macro begins a use. A machine reads it, and puts the macro's body in its place, which is read again. It
+-- goes on in the text where a body ends with the name of a macro with parameters, whose brackets follow in the text.
+use Rattle.std.specs.Prelude.{ℕ, zero, suc, ◌==◌, nat_lt, nat_le, Bool, false, not, ◌&&◌, ◌||◌, if◌then◌else◌}
+use Rattle.std.specs.Prelude.{List, [], ◌∷◌, length, slice_index_or, take, Option, Some, None}
 use Rattle.std.specs.Option.{is_some}
 use Rattle.flt_c_tokens.specs.declared.token.Kind.TheVariants as k
 use Rattle.flt_c_tokens.specs.declared.token.Token.{Token}
+use Rattle.flt_c_macros.specs.declared.arguments.Search.{Search}
+use Rattle.flt_c_macros.specs.declared.arguments.Stage.{Stage}
+use Rattle.flt_c_macros.specs.declared.arguments.Stage.TheVariants.{Before, Within, Absent, Closed}
+use Rattle.flt_c_macros.specs.declared.item.Item.{Item}
+use Rattle.flt_c_macros.specs.declared.item.Item.TheVariants.{Read, End}
+use Rattle.flt_c_macros.specs.declared.item.Word.{Word}
+use Rattle.flt_c_macros.specs.declared.machine.Machine.{Machine}
+use Rattle.flt_c_macros.specs.declared.machine.Prepared.{Prepared}
 use Rattle.flt_c_macros.specs.declared.macros.Macro.{Macro}
 use Rattle.flt_c_macros.specs.declared.macros.Macro.TheVariants.{Undefined, Plain, WithParameters, Undecided}
+use Rattle.flt_c_macros.specs.declared.note.Note.{Note}
+use Rattle.flt_c_macros.specs.declared.note.NoteKind.{NoteKind}
 use Rattle.flt_c_macros.specs.declared.note.NoteKind.TheVariants as note
 use Rattle.flt_c_macros.specs.declared.state.State.{State}
-use Rattle.flt_c_macros.specs.declared.text.Work.{Work}
+use Rattle.flt_c_macros.specs.declared.text.Place.{Place}
+use Rattle.flt_c_macros.specs.Arguments.{are_given, commas_of, unclosed}
+use Rattle.flt_c_macros.specs.Bodies.{apart, filled, has_name, has_sign}
+use Rattle.flt_c_macros.specs.Items.{colored, is_busy, plain}
 use Rattle.flt_c_macros.specs.Kinds.{same_kind}
+use Rattle.flt_c_macros.specs.Machines.{alone, ended, entered, failed, fresh, is_large, left_alone, opened, passed_by, searched, size}
+use Rattle.flt_c_macros.specs.Machines.{unprepared, with_argument, with_unread, wrote}
 use Rattle.flt_c_macros.specs.Macros.{Known, macro_of}
+use Rattle.flt_c_macros.specs.Notes.{is_told}
 use Rattle.flt_c_macros.specs.States as states
-use Rattle.flt_c_macros.specs.States.{noted}
 
 -- ---- which names are expanded
 
@@ -21,84 +38,127 @@ use Rattle.flt_c_macros.specs.States.{noted}
 abbrev pub is_kept : List Bool → ℕ → Bool
 is_kept kept name = slice_index_or kept name false
 
--- what a token is, if it is a name that is neither kept nor in work
-abbrev pub found : List Bool → Known → List ℕ → Token → Option Macro
-found kept macros busy t =
-    if same_kind t.kind k.Name && not (is_kept kept t.word) && not (list_any (λ name. nat_eq name t.word) busy)
-    then macro_of macros t.word else None
+-- what a word is, if it is a name that is neither painted nor kept nor in work
+abbrev pub found : List Bool → Known → List ℕ → Word → Option Macro
+found kept macros busy w =
+    if same_kind w.token.kind k.Name && not w.is_painted && not (is_kept kept w.token.word) && not (is_busy busy w.token)
+    then macro_of macros w.token.word else None
 
--- the names in work and one more
-abbrev pub with_name : List ℕ → ℕ → List ℕ
-with_name busy name = busy ++ name ∷ []
+-- ---- macros with parameters
 
--- ---- what a use is expanded to
+-- why no arguments are put in a body
+abbrev pub refusal : ℕ → List ℕ → Option ℕ → List Token → Search → ℕ → Option NoteKind
+refusal depth names rest body s left =
+    if not (are_given names rest s.arguments) then Some note.Arguments
+    else (if depth == 0 || is_large (length body) s.names left then Some note.Large else None)
 
--- nothing yet; 4,096 tokens of bodies may be read
-abbrev pub fresh : Token → Work
-fresh at = record { at = at; tokens = []; left = 4096; is_over = false; has_parameters = false; has_undecided = false }
+-- each argument is read, if the tokens of a body have its parameter
+abbrev pub prepared : (Machine → Machine) → List ℕ → List Token → List ℕ → List (List Word) → Prepared → Prepared
+prepared read busy tokens [] arguments p = p
+prepared read busy tokens (name ∷ names) [] p = prepared read busy tokens names [] (with_unread name [] p)
+prepared read busy tokens (name ∷ names) (a ∷ arguments) p =
+    prepared read busy tokens names arguments
+    (if has_name name tokens then with_argument name a (read (alone busy a p.left)) p else with_unread name a p)
 
--- a token at the place of another
-abbrev pub placed : Token → Token → Token
-placed t at = record t { start = at.start; line = at.line; column = at.column }
+-- the body with its arguments is to be read
+abbrev pub put_in : Token → Search → Prepared → List Word → Machine → Machine
+put_in t s p words m =
+    if nat_le p.left (length words) then failed note.Large t s m else entered t.word words (passed_by s p.left p.notes m)
 
--- each token of a use has its place
-abbrev pub pushed : Token → Work → Work
-pushed t w = record w { tokens = w.tokens ++ placed t w.at ∷ [] }
+-- a use whose arguments are given; these tokens of the body are in no joint
+unfoldable pub given_called : (Machine → Machine) → Token → List ℕ → Option ℕ → List Token → List Token → Search → Machine → Machine
+given_called read t names rest body tokens s m =
+    if has_sign tokens then failed note.Parameters t s m
+    else (let p = prepared read (take s.names m.busy) tokens names s.arguments (unprepared m.left) in
+    put_in t s p (filled p.given rest t 0 body) m)
 
-abbrev pub over : Work → Work
-over w = record w { is_over = true }
+abbrev pub called_by : (Machine → Machine) → Token → List ℕ → Option ℕ → List Token → Search → Option NoteKind → Machine → Machine
+called_by read t names rest body s (Some kind) m = failed kind t s m
+called_by read t names rest body s None m = given_called read t names rest body (apart rest 0 body) s m
 
--- so many tokens of a body are read, unless they are too many
-abbrev pub paid : ℕ → Work → Work
-paid n w = if nat_lt w.left n then over w else record w { left = w.left - n }
+-- a name without brackets is no use
+abbrev pub called_at : ℕ → (Machine → Machine) → Token → List ℕ → Option ℕ → List Token → Search → Stage → Machine → Machine
+called_at depth read t names rest body s Before m = wrote (plain t) m
+called_at depth read t names rest body s Absent m = wrote (plain t) m
+called_at depth read t names rest body s (Within depth_open) m = failed (unclosed s) t s m
+called_at depth read t names rest body s Closed m = called_by read t names rest body s (refusal depth names rest body s m.left) m
 
--- the name of a macro with parameters stays
-abbrev pub left_alone : Token → Work → Work
-left_alone t w = pushed t (record w { has_parameters = true })
+-- a name of a macro with parameters
+unfoldable pub called : ℕ → (Machine → Machine) → List Token → Token → List ℕ → Option ℕ → List Token → Machine → Machine
+called depth read source t names rest body m =
+    if nat_lt m.after m.quiet
+    then (let s = searched source (commas_of names rest) m in called_at depth read t names rest body s s.stage m) else wrote (plain t) m
 
--- and so does a name of which a branch that isn't decided made nothing known
-abbrev pub left_undecided : Token → Work → Work
-left_undecided t w = pushed t (record w { has_undecided = true })
+-- ---- turns
 
--- a token that is this or no macro; `read` reads a body
-abbrev pub expanded : (List ℕ → List Token → Work → Work) → List ℕ → Token → Option Macro → Work → Work
-expanded read busy t (Some (Plain body)) w = read (with_name busy t.word) body (paid (length body) w)
-expanded read busy t (Some (WithParameters parameters is_open body)) w = left_alone t w
-expanded read busy t (Some Undecided) w = left_undecided t w
-expanded read busy t (Some Undefined) w = pushed t w
-expanded read busy t None w = pushed t w
-
--- tokens in turn; none behind a limit
-abbrev pub each : (Token → Work → Work) → List Token → Work → Work
-each expand [] w = w
-each expand (t ∷ i) w = if w.is_over then w else each expand i (expand t w)
+-- a word, by what it is
+abbrev pub expanded : ℕ → (Machine → Machine) → List Token → Word → Option Macro → Machine → Machine
+expanded depth read source w (Some (Plain body)) m = opened w.token body m
+expanded depth read source w (Some (WithParameters names rest body)) m = called depth read source w.token names rest body m
+expanded depth read source w (Some Undecided) m = left_alone note.Undecided w.token m
+expanded depth read source w (Some Undefined) m = wrote (colored m.busy w) m
+expanded depth read source w None m = wrote (colored m.busy w) m
 
 module _ (kept : List Bool) (macros : Known) where
-  -- a body, at so many bodies within each other
-  unfoldable pub spread : ℕ → List ℕ → List Token → Work → Work
-  spread zero busy body w = over w
-  spread (suc depth) busy body w = each (λ t v. expanded (spread depth) busy t (found kept macros busy t) v) body w
+  -- an item, behind which the machine's are read
+  abbrev pub stepped : ℕ → (Machine → Machine) → List Token → Item → Machine → Machine
+  stepped depth read source End m = ended m
+  stepped depth read source (Read w) m = expanded depth read source w (found kept macros m.busy w) m
+
+abbrev pub turn_by : (Item → Machine → Machine) → List Item → Machine → Machine
+turn_by step [] m = m
+turn_by step (x ∷ xs) m = step x (record m { items = xs })
+
+abbrev pub turns : (Item → Machine → Machine) → ℕ → Machine → Machine
+turns step zero m = m
+turns step (suc n) m = turns step n (turn_by step m.items m)
+
+module _ (kept : List Bool) (macros : Known) where
+  -- All items, where arguments may be so many within each other. An argument is read without text behind it.
+  unfoldable pub read : ℕ → List Token → Machine → Machine
+  read zero source m = turns (stepped kept macros zero (λ v. v) source) (size m) m
+  read (suc depth) source m = turns (stepped kept macros (suc depth) (read depth []) source) (size m) m
+
+  -- how arguments are read where they may be so many within each other
+  abbrev pub again : ℕ → Machine → Machine
+  again zero m = m
+  again (suc depth) m = read depth [] m
 
 -- ---- text
 
--- the names that stay are noted at the use, those of macros with parameters first
-abbrev pub remarked : Token → Work → State → State
-remarked t w s =
-    let v = if w.has_parameters then noted note.Parameters t s else s in if w.has_undecided then noted note.Undecided t v else v
+-- a use at a token of text, which some tokens follow
+abbrev pub use_read : List Bool → Known → Token → List Token → ℕ → Machine
+use_read kept macros t i quiet = read kept macros 16 i (fresh t (length i) quiet)
 
-abbrev pub with_tokens : List Token → State → State
-with_tokens ts s = record s { tokens = s.tokens ++ ts }
+abbrev pub noted_behind : Option Note → List Note → State → State
+noted_behind before [] s = s
+noted_behind before (n ∷ ns) s = noted_behind (Some n) ns (if is_told n before then s else states.noted n.kind n.at s)
 
--- a use that passes a limit stays, and is noted
-abbrev pub used : Token → Work → State → State
-used t w s = if w.is_over then states.pushed t (noted note.Large t s) else with_tokens w.tokens (remarked t w s)
+abbrev pub with_words : List Word → State → State
+with_words [] s = s
+with_words (w ∷ ws) s = with_words ws (states.pushed w.token s)
 
-abbrev pub token : List Bool → Token → State → State
-token kept t s =
-    let known = found kept s.macros [] t in
-    if is_some known then used t (expanded (spread kept s.macros 16) [] t known (fresh t)) s else states.pushed t s
+-- what a use was expanded to, and its notes
+abbrev pub used : Machine → State → State
+used m s = noted_behind None m.notes (with_words m.written s)
+
+-- A token of text, which some tokens follow, unless it was an argument: where the text is read on, and what was read.
+abbrev pub token_read : List Bool → Token → List Token → Place → State → Place × State
+token_read kept t i p s =
+    if nat_le p.after (length i) then (p, s)
+    else (if is_some (found kept s.macros [] (plain t))
+    then (let m = use_read kept s.macros t i p.quiet in (record { after = m.after; quiet = m.quiet }, used m s))
+    else (record { after = length i; quiet = p.quiet }, states.pushed t s))
+
+-- text, from a place on
+abbrev pub text_from : List Bool → List Token → Place × State → State
+text_from kept [] r = r.1
+text_from kept (t ∷ i) r = text_from kept i (token_read kept t i r.0 r.1)
+
+-- nothing was read yet: brackets may be looked for
+abbrev pub beginning : List Token → Place
+beginning ts = record { after = length ts; quiet = length ts }
 
 -- text between directives
 abbrev pub text : List Bool → List Token → State → State
-text kept [] s = s
-text kept (t ∷ i) s = text kept i (token kept t s)
+text kept ts s = text_from kept ts (beginning ts, s)

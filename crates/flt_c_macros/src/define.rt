@@ -7,7 +7,7 @@ use crate::kind::same_kind;
 use crate::macros::Macro;
 use crate::note::NoteKind;
 use crate::state::State;
-use flt_c_tokens::{Kind, Token};
+use flt_c_tokens::{Kind, Spellings, Token};
 use sqlite_items::Items;
 use std::alloc::{AllocError, Global};
 
@@ -107,17 +107,53 @@ fn parameters<'a>(alloc: Global, line: &'a [Token]) -> Result<Option<Head<'a>>, 
     Ok(None)
 }
 
+/// The name by which a body has the arguments after the named ones.
+fn rest_name(spellings: &Spellings) -> u32
+    ensures { result ≡ spec.rest_name spellings.now }
+{
+    match spellings.number_of(b"__VA_ARGS__") {
+        Some(number) => number,
+        None => 0,
+    }
+}
+
+/// A macro with parameters.
+fn macro_with(
+    alloc: Global,
+    rest: u32,
+    parameters: &[u32],
+    is_open: bool,
+    body: &[Token],
+) -> Result<Macro, AllocError>
+    ensures { IfOk result (λ found. found ≡ spec.macro_with rest (parameters.now, is_open, body.now)) }
+{
+    let body = Items::from_slice(alloc, body)?;
+    let mut names = Items::from_slice(alloc, parameters)?;
+    if is_open {
+        names.push(rest)?;
+        Ok(Macro::WithParameters(names, Some(rest), body))
+    } else {
+        Ok(Macro::WithParameters(names, None, body))
+    }
+}
+
 /// A macro, by the line after its name; `None` where the parameters are malformed.
-fn macro_from(alloc: Global, line: &[Token]) -> Result<Option<Macro>, AllocError>
-    ensures { IfOk result (λ found. found ≡ spec.macro_from line.now) }
+fn macro_from(
+    alloc: Global,
+    spellings: &Spellings,
+    line: &[Token],
+) -> Result<Option<Macro>, AllocError>
+    ensures { IfOk result (λ found. found ≡ spec.macro_from spellings.now line.now) }
 {
     match line {
         [token, rest @ ..] if token.is_glued && same_kind(token.kind, Kind::OpenParen) => {
             match parameters(alloc, rest)? {
                 None => Ok(None),
                 Some(head) => {
-                    let body = Items::from_slice(alloc, head.body)?;
-                    Ok(Some(Macro::WithParameters(head.parameters, head.is_open, body)))
+                    let name = rest_name(spellings);
+                    let names = head.parameters.as_slice();
+                    let found = macro_with(alloc, name, names, head.is_open, head.body)?;
+                    Ok(Some(found))
                 }
             }
         }
@@ -137,11 +173,19 @@ fn settle(state: &mut State, name: u32, what: Macro) -> Result<(), AllocError>
 }
 
 /// The line of a `#define`.
-pub fn define(alloc: Global, state: &mut State, at: Token, line: &[Token]) -> Result<(), AllocError>
-    ensures { OnOk result (state.new ≡ spec.defined at line.now state.old) }
+pub fn define(
+    alloc: Global,
+    spellings: &Spellings,
+    state: &mut State,
+    at: Token,
+    line: &[Token],
+) -> Result<(), AllocError>
+    ensures { OnOk result (state.new ≡ spec.defined spellings.now at line.now state.old) }
 {
     match line {
-        [name, rest @ ..] if same_kind(name.kind, Kind::Name) => match macro_from(alloc, rest)? {
+        [name, rest @ ..] if same_kind(name.kind, Kind::Name) => match macro_from(
+            alloc, spellings, rest,
+        )? {
             None => state.note(NoteKind::Malformed, at),
             Some(found) => settle(state, name.word, found),
         },

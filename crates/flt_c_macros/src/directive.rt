@@ -86,7 +86,7 @@ pub fn directive(
         Command::Open(form) => open(alloc, spellings, state, at, form, rest, after),
         Command::Part(form) => part(alloc, spellings, state, at, form, rest),
         Command::End => Ok(end(state, at)?),
-        Command::Define if state.is_read() => Ok(define(alloc, state, at, rest)?),
+        Command::Define if state.is_read() => Ok(define(alloc, spellings, state, at, rest)?),
         Command::Undefine if state.is_read() => Ok(undefine(state, at, rest)?),
         _ => Ok(()),
     }

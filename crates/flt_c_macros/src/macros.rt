@@ -16,8 +16,8 @@ pub enum Macro {
     Undefined,
     /// A macro without parameters, and its body.
     Plain(Items<Token>),
-    /// A macro with parameters: these by their spellings' numbers, whether `...` follows them, and the body.
-    WithParameters(Items<u32>, bool, Items<Token>),
+    /// A macro with parameters: these by their spellings' numbers, the last of them again if it stands for `...`, and the body.
+    WithParameters(Items<u32>, Option<u32>, Items<Token>),
     /// Its last line is in a branch that isn't decided: nothing is known of the name.
     Undecided,
 }

@@ -1,81 +1,24 @@
 //! The text between directives: uses of macros are expanded.
 
-ghost use Rattle.std.specs.Prelude.{◌≡◌, [], OnOk, IfOk, option_copied};
+ghost use Rattle.std.specs.Prelude.{◌≡◌, ◌<◌, [], None, OnOk, IfOk, option_copied};
+ghost use Rattle.flt_c_macros.specs.Bodies.{filled};
+ghost use Rattle.flt_c_macros.specs.Machines.{unprepared};
 ghost use Rattle.flt_c_macros.specs.Uses as spec;
 
+use crate::arguments::{Search, Stage, are_given, commas_of};
+use crate::body::{apart, fill, has_name, has_sign};
+use crate::item::{Item, Word, colored, first, is_busy, plain};
 use crate::kind::same_kind;
+use crate::machine::{Machine, Prepared, is_large};
 use crate::macros::{Macro, Macros};
-use crate::note::NoteKind;
+use crate::note::{Note, NoteKind, is_told};
 use crate::state::State;
 use flt_c_tokens::{Kind, Token};
 use sqlite_items::Items;
 use std::alloc::{AllocError, Global};
 
-/// How many bodies may be read within each other.
+/// How many arguments may be within each other.
 const MAX_DEPTH: usize = 16;
-
-/// How many tokens the bodies that a use reads may have.
-const MAX_TOKENS: usize = 4096;
-
-/// The tokens of a use of a macro.
-#[derive(Drop)]
-pub struct Work {
-    /// The place of the use, which all its tokens have.
-    pub at: Token,
-    pub tokens: Items<Token>,
-    /// How many more tokens of bodies may be read.
-    pub left: usize,
-    /// Whether a limit is passed.
-    pub is_over: bool,
-    /// Whether a name of a macro with parameters stays in it.
-    pub has_parameters: bool,
-    /// Whether a name of which nothing is known any longer stays in it.
-    pub has_undecided: bool,
-}
-
-impl Work {
-    fn new(alloc: Global, at: Token) -> Work
-        ensures { result ≡ spec.fresh at }
-    {
-        Work {
-            at,
-            tokens: Items::new(alloc),
-            left: MAX_TOKENS,
-            is_over: false,
-            has_parameters: false,
-            has_undecided: false,
-        }
-    }
-
-    fn push(&mut self, token: Token) -> Result<(), AllocError>
-        ensures { OnOk result (self.new ≡ spec.pushed token self.old) }
-    {
-        self.tokens.push(placed(token, self.at))
-    }
-
-    /// Counts tokens of a body.
-    fn pay(&mut self, count: usize)
-        ensures { self.new ≡ spec.paid count self.old }
-    {
-        if self.left < count {
-            self.is_over = true;
-        } else {
-            self.left -= count;
-        }
-    }
-}
-
-/// A token at the place of another.
-fn placed(token: Token, at: Token) -> Token
-    ensures { result ≡ spec.placed token at }
-{
-    Token {
-        start: at.start,
-        line: at.line,
-        column: at.column,
-        ..token
-    }
-}
 
 fn is_kept(kept: &[bool], name: u32) -> bool
     ensures { result ≡ spec.is_kept kept.now name }
@@ -86,13 +29,15 @@ fn is_kept(kept: &[bool], name: u32) -> bool
     }
 }
 
-/// A token's definition, if it is a name that may be expanded: it is neither kept nor in work.
-fn found<'a>(macros: &'a Macros, kept: &[bool], busy: &[u32], token: Token) -> Option<&'a Macro>
-    ensures { option_copied result ≡ spec.found kept.now macros.now busy.now token }
+/// A word's definition, if it is a name that may be expanded: it is neither painted nor kept nor in work.
+fn found<'a>(macros: &'a Macros, kept: &[bool], busy: &[u32], word: Word) -> Option<&'a Macro>
+    ensures { option_copied result ≡ spec.found kept.now macros.now busy.now word }
 {
+    let token = word.token;
     if same_kind(token.kind, Kind::Name)
+        && !word.is_painted
         && !is_kept(kept, token.word)
-        && !busy.contains(&token.word)
+        && !is_busy(busy, token)
     {
         macros.get(token.word)
     } else {
@@ -100,97 +45,339 @@ fn found<'a>(macros: &'a Macros, kept: &[bool], busy: &[u32], token: Token) -> O
     }
 }
 
-/// The names in work and one more.
-fn with_name(alloc: Global, busy: &[u32], name: u32) -> Result<Items<u32>, AllocError>
-    ensures { IfOk result (λ names. names ≡ spec.with_name busy.now name) }
-{
-    let mut names = Items::from_slice(alloc, busy)?;
-    names.push(name)?;
-    Ok(names)
-}
-
-/// Expands a token.
-#[cycle(uses)]
-fn expand(
-    alloc: Global,
-    macros: &Macros,
-    kept: &[bool],
+/// Why no arguments are put in a body, if they aren't.
+fn refusal(
     depth: usize,
-    busy: &[u32],
-    token: Token,
-    work: &mut Work,
-) -> Result<(), AllocError>
-    ensures { OnOk result (spec.expanded (spec.spread kept.now macros.now depth) busy.now token
-        (spec.found kept.now macros.now busy.now token) work.old ≡ work.new) }
-{
-    match found(macros, kept, busy, token) {
-        Some(Macro::Plain(body)) => {
-            let names = with_name(alloc, busy, token.word)?;
-            work.pay(body.len());
-            spread(
-                alloc,
-                macros,
-                kept,
-                depth,
-                names.as_slice(),
-                body.as_slice(),
-                work,
-            )
-        }
-        Some(Macro::WithParameters(..)) => {
-            work.has_parameters = true;
-            work.push(token)
-        }
-        Some(Macro::Undecided) => {
-            work.has_undecided = true;
-            work.push(token)
-        }
-        _ => work.push(token),
-    }
-}
-
-/// Reads a body, in which the names in work are left alone.
-#[tactic(auto, using(crate::proofs::Parts::spread_none, crate::proofs::Parts::spread_step, crate::proofs::Parts::each_over))]
-#[cycle(uses)]
-fn spread(
-    alloc: Global,
-    macros: &Macros,
-    kept: &[bool],
-    depth: usize,
-    busy: &[u32],
+    names: &[u32],
+    rest: Option<u32>,
     body: &[Token],
-    work: &mut Work,
-) -> Result<(), AllocError>
-    ensures { OnOk result (spec.spread kept.now macros.now depth busy.now body.now work.old ≡ work.new) }
+    search: &Search,
+    left: u32,
+) -> Option<NoteKind>
+    ensures value { result ≡ spec.refusal depth names.now rest body.now search.now left }
+    ensures deep { result ≡ None → 0 < depth }
 {
-    if depth == 0 {
-        work.is_over = true;
-        return Ok(());
+    if !are_given(names, rest, search.arguments.as_slice()) {
+        Some(NoteKind::Arguments)
+    } else if depth == 0 || is_large(body.len(), search.names, left) {
+        Some(NoteKind::Large)
+    } else {
+        None
     }
-    for token in body {
-        if work.is_over {
+}
+
+/// Puts arguments in a body, which will be read.
+fn put_in(
+    alloc: Global,
+    token: Token,
+    rest: Option<u32>,
+    body: &[Token],
+    search: &Search,
+    prepared: Prepared,
+    machine: &mut Machine,
+) -> Result<(), AllocError>
+    ensures { OnOk result (machine.new ≡ spec.put_in token search.now prepared (filled prepared.given rest token 0 body.now) machine.old) }
+{
+    let Prepared { given, left, notes } = prepared;
+    match fill(alloc, given.as_slice(), rest, token, body, left)? {
+        None => machine.fail(NoteKind::Large, token, search),
+        Some(words) => {
+            machine.pass(alloc, search, left, notes)?;
+            machine.enter(token.word, words.as_slice())
+        }
+    }
+}
+
+/// Reads the arguments whose parameters are among the tokens of a body.
+#[cycle(uses)]
+fn prepare(
+    alloc: Global,
+    macros: &Macros,
+    kept: &[bool],
+    depth: usize,
+    busy: &[u32],
+    tokens: &[Token],
+    names: &[u32],
+    arguments: &[Items<Word>],
+    left: u32,
+) -> Result<Prepared, AllocError>
+    ensures { IfOk result (λ p. p ≡ spec.prepared (spec.read kept.now macros.now depth []) busy.now tokens.now names.now arguments.now
+        (unprepared left)) }
+{
+    let mut prepared = Prepared::new(alloc, left);
+    let mut names_left = names;
+    let mut arguments_left = arguments;
+    while let [name, names_behind @ ..] = names_left {
+        match arguments_left {
+            [] => prepared.add_unread(alloc, *name, &[])?,
+            [words, arguments_behind @ ..] => {
+                if has_name(*name, tokens) {
+                    let mut machine = Machine::alone(alloc, busy, words.as_slice(), prepared.left)?;
+                    read(alloc, macros, kept, depth, &[], &mut machine)?;
+                    prepared.add(alloc, *name, words.as_slice(), machine)?;
+                } else {
+                    prepared.add_unread(alloc, *name, words.as_slice())?;
+                }
+                arguments_left = arguments_behind;
+            }
+        }
+        names_left = names_behind;
+    }
+    Ok(prepared)
+}
+
+/// Expands a use whose arguments are given; these tokens of the body aren't of a `, ## __VA_ARGS__`.
+#[tactic(auto, unfolding(crate::specs::Uses::given_called))]
+#[cycle(uses)]
+fn call_given(
+    alloc: Global,
+    macros: &Macros,
+    kept: &[bool],
+    depth: usize,
+    token: Token,
+    names: &[u32],
+    rest: Option<u32>,
+    body: &[Token],
+    tokens: &[Token],
+    search: &Search,
+    machine: &mut Machine,
+) -> Result<(), AllocError>
+    requires deep { 0 < depth }
+    ensures { OnOk result (machine.new ≡ spec.given_called (spec.again kept.now macros.now depth) token names.now rest body.now tokens.now
+        search.now machine.old) }
+{
+    if has_sign(tokens) {
+        return machine.fail(NoteKind::Parameters, token, search);
+    }
+    let work = first(machine.names(), search.names);
+    let arguments = search.arguments.as_slice();
+    let left = machine.left;
+    let prepared = prepare(
+        alloc,
+        macros,
+        kept,
+        depth - 1,
+        work,
+        tokens,
+        names,
+        arguments,
+        left,
+    )?;
+    put_in(alloc, token, rest, body, search, prepared, machine)
+}
+
+/// Expands a name of a macro with parameters after a search for its brackets.
+#[cycle(uses)]
+fn call_by(
+    alloc: Global,
+    macros: &Macros,
+    kept: &[bool],
+    depth: usize,
+    token: Token,
+    names: &[u32],
+    rest: Option<u32>,
+    body: &[Token],
+    search: &Search,
+    machine: &mut Machine,
+) -> Result<(), AllocError>
+    ensures { OnOk result (machine.new ≡ spec.called_at depth (spec.again kept.now macros.now depth) token names.now rest body.now
+        search.now search.now.stage machine.old) }
+{
+    match search.stage {
+        Stage::Before | Stage::Absent => machine.write(plain(token)),
+        Stage::Within(_) => machine.fail(search.unclosed(), token, search),
+        Stage::Closed => match refusal(depth, names, rest, body, search, machine.left) {
+            Some(kind) => machine.fail(kind, token, search),
+            None => {
+                let tokens = apart(alloc, rest, body)?;
+                call_given(
+                    alloc,
+                    macros,
+                    kept,
+                    depth,
+                    token,
+                    names,
+                    rest,
+                    body,
+                    tokens.as_slice(),
+                    search,
+                    machine,
+                )
+            }
+        },
+    }
+}
+
+/// Expands a name of a macro with parameters, if brackets follow it.
+#[tactic(auto, unfolding(crate::specs::Uses::called))]
+#[cycle(uses)]
+fn call(
+    alloc: Global,
+    macros: &Macros,
+    kept: &[bool],
+    depth: usize,
+    source: &[Token],
+    token: Token,
+    names: &[u32],
+    rest: Option<u32>,
+    body: &[Token],
+    machine: &mut Machine,
+) -> Result<(), AllocError>
+    ensures { OnOk result (machine.new ≡ spec.called depth (spec.again kept.now macros.now depth) source.now token names.now rest body.now
+        machine.old) }
+{
+    if machine.after >= machine.quiet {
+        return machine.write(plain(token));
+    }
+    let search = machine.look(alloc, source, commas_of(names, rest))?;
+    call_by(
+        alloc, macros, kept, depth, token, names, rest, body, &search, machine,
+    )
+}
+
+/// Reads an item.
+#[tactic(auto, using(crate::proofs::Uses::stepped_called))]
+#[cycle(uses)]
+fn step(
+    alloc: Global,
+    macros: &Macros,
+    kept: &[bool],
+    depth: usize,
+    source: &[Token],
+    item: Item,
+    machine: &mut Machine,
+) -> Result<(), AllocError>
+    ensures { OnOk result (machine.new ≡ spec.stepped kept.now macros.now depth (spec.again kept.now macros.now depth) source.now item
+        machine.old) }
+{
+    let word = match item {
+        Item::End => {
+            machine.end();
             return Ok(());
         }
-        expand(alloc, macros, kept, depth - 1, busy, *token, work)?;
+        Item::Read(word) => word,
+    };
+    let token = word.token;
+    match found(macros, kept, machine.names(), word) {
+        Some(Macro::Plain(body)) => machine.open(alloc, token, body.as_slice()),
+        Some(Macro::WithParameters(names, rest, body)) => call(
+            alloc,
+            macros,
+            kept,
+            depth,
+            source,
+            token,
+            names.as_slice(),
+            *rest,
+            body.as_slice(),
+            machine,
+        ),
+        Some(Macro::Undecided) => machine.leave_alone(NoteKind::Undecided, token),
+        _ => machine.write(colored(machine.names(), word)),
+    }
+}
+
+/// Reads all items, where arguments may be so many within each other.
+#[tactic(auto, using(crate::proofs::Uses::read_turns, crate::proofs::Uses::turns_over, crate::proofs::Uses::turns_none, crate::proofs::Uses::turns_step))]
+#[cycle(uses)]
+fn read(
+    alloc: Global,
+    macros: &Macros,
+    kept: &[bool],
+    depth: usize,
+    source: &[Token],
+    machine: &mut Machine,
+) -> Result<(), AllocError>
+    ensures { OnOk result (machine.new ≡ spec.read kept.now macros.now depth source.now machine.old) }
+{
+    for _turn in 0..machine.size() {
+        match machine.items.pop() {
+            None => return Ok(()),
+            Some(item) => step(alloc, macros, kept, depth, source, item, machine)?,
+        }
     }
     Ok(())
 }
 
-/// Adds the tokens of a use to those that were read. Where a limit is passed the use stays.
-fn put(state: &mut State, token: Token, work: Work) -> Result<(), AllocError>
-    ensures { OnOk result (state.new ≡ spec.used token work state.old) }
+/// Reads a use at a token of text, up to the last item.
+#[tactic(auto, using(crate::proofs::Turns::read_ends))]
+fn read_use(
+    alloc: Global,
+    macros: &Macros,
+    kept: &[bool],
+    token: Token,
+    source: &[Token],
+    quiet: usize,
+) -> Result<Machine, AllocError>
+    ensures done { IfOk result (λ m. m ≡ spec.use_read kept.now macros.now token source.now quiet) }
+    ensures all { IfOk result (λ m. m.items ≡ []) }
 {
-    if work.is_over {
-        state.note(NoteKind::Large, token)?;
-        return state.push(token);
+    let mut machine = Machine::fresh(alloc, token, source.len(), quiet)?;
+    read(alloc, macros, kept, MAX_DEPTH, source, &mut machine)?;
+    Ok(machine)
+}
+
+/// Adds notes to those that were made. One at the place of the one before it, for the same reason, says nothing new.
+fn note_all(state: &mut State, notes: &[Note]) -> Result<(), AllocError>
+    ensures { OnOk result (state.new ≡ spec.noted_behind None notes.now state.old) }
+{
+    let mut before = None;
+    for note in notes {
+        if !is_told(*note, before) {
+            state.note(note.kind, note.at)?;
+        }
+        before = Some(*note);
     }
-    if work.has_parameters {
-        state.note(NoteKind::Parameters, token)?;
+    Ok(())
+}
+
+/// Adds words to the tokens that were read.
+fn push_all(state: &mut State, words: &[Word]) -> Result<(), AllocError>
+    ensures { OnOk result (state.new ≡ spec.with_words words.now state.old) }
+{
+    for word in words {
+        state.push(word.token)?;
     }
-    if work.has_undecided {
-        state.note(NoteKind::Undecided, token)?;
+    Ok(())
+}
+
+/// How much of a text is still read.
+#[derive(Clone, Copy)]
+pub struct Place {
+    /// How many tokens of the text are left: those before them were arguments.
+    pub after: usize,
+    /// Brackets are looked for where fewer tokens of the text are left.
+    pub quiet: usize,
+}
+
+/// Expands a token of text, unless it was an argument.
+fn read_token(
+    alloc: Global,
+    kept: &[bool],
+    state: &mut State,
+    token: Token,
+    source: &[Token],
+    place: Place,
+) -> Result<Place, AllocError>
+    ensures { IfOk result (λ next. (next, state.new) ≡ spec.token_read kept.now token source.now place state.old) }
+{
+    if source.len() >= place.after {
+        return Ok(place);
     }
-    state.tokens.append(work.tokens)
+    if found(&state.macros, kept, &[], plain(token)).is_none() {
+        state.push(token)?;
+        return Ok(Place {
+            after: source.len(),
+            quiet: place.quiet,
+        });
+    }
+    let machine = read_use(alloc, &state.macros, kept, token, source, place.quiet)?;
+    push_all(state, machine.written.as_slice())?;
+    note_all(state, machine.notes.as_slice())?;
+    Ok(Place {
+        after: machine.after,
+        quiet: machine.quiet,
+    })
 }
 
 /// Expands text between directives.
@@ -202,15 +389,14 @@ pub fn expand_text(
 ) -> Result<(), AllocError>
     ensures { OnOk result (state.new ≡ spec.text kept.now text.now state.old) }
 {
-    for token in text {
-        if found(&state.macros, kept, &[], *token).is_none() {
-            state.push(*token)?;
-        } else {
-            let mut work = Work::new(alloc, *token);
-            let macros = &state.macros;
-            expand(alloc, macros, kept, MAX_DEPTH, &[], *token, &mut work)?;
-            put(state, *token, work)?;
-        }
+    let mut place = Place {
+        after: text.len(),
+        quiet: text.len(),
+    };
+    let mut rest = text;
+    while let [token, source @ ..] = rest {
+        place = read_token(alloc, kept, state, *token, source, place)?;
+        rest = source;
     }
     Ok(())
 }

@@ -178,7 +178,7 @@ fn read(
     Ok(result_of(state))
 }
 
-/// The tokens of a driver's files, without directives: groups of lines are decided or marked, and macros without parameters are expanded.
+/// The tokens of a driver's files, without directives: groups of lines are decided or marked, and macros are expanded.
 ///
 /// A header's tokens are in the place of its `#include`; options come first, as the lines `#define NAME VALUE` and `#undef NAME`.
 /// Reading ends at the first `End`. `kept` says by the numbers of their spellings which names are never expanded; names that it doesn't

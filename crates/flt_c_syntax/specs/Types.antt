@@ -4,7 +4,7 @@ use Rattle.flt_c_tokens.specs.declared.token.Kind.{Kind}
 use Rattle.flt_c_tokens.specs.declared.token.Kind.TheVariants as k
 use Rattle.flt_c_tokens.specs.declared.token.Token.{Token}
 use Rattle.flt_c_syntax.specs.Operators.{prefix_of, begins_operand, is_either_sign}
-use Rattle.flt_c_syntax.specs.Tokens.{Input, kind, next, sees, is_type_part, run, behind, words, class_of}
+use Rattle.flt_c_syntax.specs.Tokens.{Input, kind, next, sees, same_kind, is_type_part, run, behind, words, class_of}
 use Rattle.flt_c_syntax.specs.declared.class.Class.{Class}
 use Rattle.flt_c_syntax.specs.declared.class.Class.TheVariants as classes
 use Rattle.flt_c_syntax.specs.declared.class.Part.TheVariants as parts
@@ -66,14 +66,17 @@ is_group i = is_type_part (kind i) && sees k.CloseParen (behind_type i)
 abbrev pub behind_group : Input → Input
 behind_group i = next (behind_type i)
 
--- `(T) x`: what stands behind the opening bracket is a type and a closing one, and an operand follows. A name in capitals alone is
--- a type only where what follows can't go on with an expression.
+-- what an operand begins with behind the bracket of a type: of a name in capitals alone what can't go on with an expression, and of
+-- another name what isn't a call's bracket, either
+abbrev pub follows_type : Class → Kind → Bool
+follows_type classes.Type kind = begins_operand kind || is_either_sign kind
+follows_type classes.Capital kind = begins_operand kind
+follows_type classes.Plain kind = begins_operand kind && not (same_kind kind k.OpenParen)
+
+-- `(T) x`: what stands behind the opening bracket is a type and a closing one, and an operand follows
 unfoldable pub is_cast : List Class → Input → Bool
 is_cast known i =
-    is_group i
-    && (if is_surely_type i || is_type_class (class_at known i)
-    then begins_operand (kind (behind_group i)) || is_either_sign (kind (behind_group i))
-    else is_capital_class (class_at known i) && begins_operand (kind (behind_group i)))
+    is_group i && follows_type (if is_surely_type i then classes.Type else class_at known i) (kind (behind_group i))
 
 -- `(T){ .. }`
 unfoldable pub is_literal : Input → Bool

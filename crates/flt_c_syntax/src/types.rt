@@ -174,6 +174,17 @@ fn behind_group(tokens: &[Token]) -> &[Token]
     next(behind_type(tokens))
 }
 
+/// Whether an operand begins with a token after the bracket of a type of this class.
+fn follows_type(class: Class, kind: Kind) -> bool
+    ensures { result ≡ spec.follows_type class kind }
+{
+    match class {
+        Class::Type => begins_operand(kind) || is_either_sign(kind),
+        Class::Capital => begins_operand(kind),
+        Class::Plain => begins_operand(kind) && !same_kind(kind, Kind::OpenParen),
+    }
+}
+
 #[tactic(auto, unfolding(crate::specs::Types::is_cast))]
 fn is_cast(known: &[Class], tokens: &[Token]) -> bool
     ensures { result ≡ spec.is_cast known.now tokens.now }
@@ -181,15 +192,12 @@ fn is_cast(known: &[Class], tokens: &[Token]) -> bool
     if !is_group(tokens) {
         return false;
     }
-    let follows = front(behind_group(tokens)).kind;
-    if is_surely_type(tokens) {
-        return begins_operand(follows) || is_either_sign(follows);
-    }
-    match class_at(known, tokens) {
-        Class::Type => begins_operand(follows) || is_either_sign(follows),
-        Class::Capital => begins_operand(follows),
-        Class::Plain => false,
-    }
+    let class = if is_surely_type(tokens) {
+        Class::Type
+    } else {
+        class_at(known, tokens)
+    };
+    follows_type(class, front(behind_group(tokens)).kind)
 }
 
 #[tactic(auto, unfolding(crate::specs::Types::is_literal))]

@@ -1,174 +1,52 @@
-//! Listings of C files: their functions, their tables, and unread items.
+//! Listings of C files; examples/cases/functions.cases has more of them.
 
-use flt_c_functions::{File, Listing, functions};
+use flt_c_functions::{Listing, Options, functions};
 use flt_c_syntax::Reason;
 use flt_c_tokens::Excess;
 use std::alloc::{AllocError, Global};
 use std::test::Fail;
 
-/// The files `a.c`, `b.c` and so on of a row, their listing, and whether all of them is read.
-type Row<'a> = (&'a [&'a str], &'a str, bool);
+static NAMES: [&str; 2] = ["a.cc", "b.cc"];
 
-static NAMES: [&str; 3] = ["a.c", "b.c", "c\n.c"];
-
-static LISTINGS: [Row<'static>; 19] = [
-    (&[], "", true),
-    (
-        &["typedef int t; int x; void p(void); struct s { int a; };"],
-        "",
-        true,
-    ),
-    // Functions.
-    (
-        &["void f(void) { return; }\nstatic int\ng(int x)\n{\n    return x;\n}\n"],
-        "a.c:1:6: function f: read\na.c:3:1: function g: read\n",
-        true,
-    ),
-    (
-        &["void f(void)\n{\n    a = ;\n}\nvoid g(void) { }"],
-        "a.c:1:6: function f: stops at line 3, column 9: another token is expected\na.c:5:6: function g: read\n",
-        false,
-    ),
-    // A name is a type in each file if one file names it, and capitals look like a type.
-    (
-        &["void f(void) { a = (t) b; }"],
-        "a.c:1:6: function f: stops at line 1, column 24: another token is expected\n",
-        false,
-    ),
-    (
-        &["void f(void) { a = (t) b; }", "typedef int s, *t;"],
-        "a.c:1:6: function f: read\n",
-        true,
-    ),
-    (
-        &[
-            "typedef int t;",
-            "void f(void) { a = (t) b; }",
-            "void g(void) { a = (t) - b; }",
-        ],
-        "b.c:1:6: function f: read\nc?.c:1:6: function g: read\n",
-        true,
-    ),
-    (
-        &["void f(void) { a = (P1_T) b; }"],
-        "a.c:1:6: function f: read\n",
-        true,
-    ),
-    (
-        &["void f(void) { a = (P1_) b; }"],
-        "a.c:1:6: function f: stops at line 1, column 26: another token is expected\n",
-        false,
-    ),
-    (
-        &["void f(void) { a = (PtT) b; }"],
-        "a.c:1:6: function f: stops at line 1, column 26: another token is expected\n",
-        false,
-    ),
-    // Tables.
-    (
-        &[
-            "const FLT_OPERATION_REGISTRATION Callbacks[] = {\n    { IRP_MJ_CREATE, 0, PreCreate, PostCreate },\n    { IRP_MJ_OPERATION_END }\n};\n",
-        ],
-        "a.c:1:34: table Callbacks: operations\n  { IRP_MJ_CREATE, 0, PreCreate, PostCreate }\n  { IRP_MJ_OPERATION_END }\n",
-        true,
-    ),
-    (
-        &[
-            "FLT_CONTEXT_REGISTRATION C[2] = { { FLT_STREAM_CONTEXT, 0, NULL, sizeof(S) }, { FLT_CONTEXT_END } };",
-        ],
-        "a.c:1:26: table C: contexts\n  { FLT_STREAM_CONTEXT, 0, NULL, sizeof ( S ) }\n  { FLT_CONTEXT_END }\n",
-        true,
-    ),
-    (
-        &[
-            "FLT_REGISTRATION R = { sizeof(FLT_REGISTRATION), .Version = FLT_REGISTRATION_VERSION, .Unload = &Unload };",
-        ],
-        "a.c:1:18: table R: registration\n  { sizeof ( FLT_REGISTRATION ), .Version = FLT_REGISTRATION_VERSION, .Unload = & Unload }\n",
-        true,
-    ),
-    (
-        &[
-            "FLT_OPERATION_REGISTRATION T[] = { { .Major = IRP_MJ_READ, .Pre = Pre<:0:> }, { }, E };",
-        ],
-        "a.c:1:28: table T: operations\n  { .Major = IRP_MJ_READ, .Pre = Pre [ 0 ] }\n  {  }\n  { E }\n",
-        true,
-    ),
-    (
-        &["FLT_OPERATION_REGISTRATION T[] = { { \"a\\\nb\", (a + 1) << 2, @ } };"],
-        "a.c:1:28: table T: operations\n  { \"a\\?b\", ( a + 1 ) << 2, ? }\n",
-        true,
-    ),
-    // What isn't read.
-    (
-        &["} void g(void) { }"],
-        "a.c:1:1: not read: this brace closes nothing\na.c:1:8: function g: read\n",
-        false,
-    ),
-    (
-        &["int x; { int y; }\nvoid g(void) {"],
-        "a.c:1:8: not read: this block has no head of a function before it\na.c:2:1: not read: its brackets are not closed\n",
-        false,
-    ),
-    (
-        &["class A { };"],
-        "a.c:1:1: not read: no declaration of C has such a word or sign\n",
-        false,
-    ),
-    // Files in their order.
-    (
-        &["void f(void) { }", "void f(void) { a + ; }"],
-        "a.c:1:6: function f: read\nb.c:1:6: function f: stops at line 1, column 20: another token is expected\n",
-        false,
-    ),
+/// Files with a type of the other one, conditions that options decide, a name of which nothing is known, a table, and unread places.
+static TEXTS: [&str; 2] = [
+    "#if D\nvoid f(void) { a = (t) b; }\n#else\n}\n#endif\n#ifdef U\n}\n#endif\n#if X\n#define M 1\n#endif\nFLT_OPERATION_REGISTRATION T[] = { { D, M } };\n#else\n",
+    "typedef int t;\n}\nvoid g(void) { a = ; }",
 ];
 
-/// The files of a row.
-fn files_of<'a>(alloc: Global, texts: &'a [&'a str]) -> Result<Vec<File<'a>>, AllocError> {
-    let mut found = Vec::new(alloc);
-    for (name, text) in NAMES.iter().zip(texts.iter()) {
-        found.push(File {
-            name,
-            bytes: text.as_bytes(),
-        })?;
-    }
-    Ok(found)
-}
+const LISTING: &str =
+    "a.cc:12:41: not expanded: M: an #if decides what a macro is\na.cc:13:1: not read: no #if is open here\na.cc:2:6: function f: read\na.cc:12:28: table T: operations\n  { 1, M }\nb.cc:2:1: not read: this brace closes nothing\nb.cc:3:6: function g: stops at line 3, column 20: another token is expected\n";
 
-/// The listing of files.
+/// The listing of files after `#define D 1` and `#undef U`.
 fn listing_of(alloc: Global, texts: &[&str]) -> Result<Option<Listing>, AllocError> {
-    let files = files_of(alloc, texts)?;
-    match functions(alloc, files.as_slice())? {
+    let mut files = Vec::new(alloc);
+    for text in texts {
+        let file = Vec::from_slice(alloc, text.as_bytes())?;
+        files.push(file)?;
+    }
+    let options = Options {
+        defined: &["D", "U=2"],
+        undefined: &["U"],
+    };
+    match functions(alloc, options, &NAMES, files.as_slice())? {
         Ok(listing) => Ok(Some(listing)),
         Err(_) => Ok(None),
     }
 }
 
-fn is_listing(
-    alloc: Global,
-    texts: &[&str],
-    text: &str,
-    is_whole: bool,
-) -> Result<bool, AllocError> {
-    match listing_of(alloc, texts)? {
-        Some(found) => Ok(found.text.as_slice() == text.as_bytes() && found.is_whole == is_whole),
-        None => Ok(false),
+/// Whether the files have this listing, which isn't whole.
+fn is_listed(found: &Option<Listing>) -> bool {
+    match found {
+        Some(listing) => listing.text.as_slice() == LISTING.as_bytes() && !listing.is_whole,
+        None => false,
     }
-}
-
-/// The first row whose files have another listing.
-fn wrong_listing(alloc: Global, rows: &[Row<'_>]) -> Result<Option<usize>, AllocError> {
-    for (row, (texts, text, is_whole)) in rows.iter().enumerate() {
-        if !is_listing(alloc, texts, text, *is_whole)? {
-            return Ok(Some(row));
-        }
-    }
-    Ok(None)
 }
 
 /// `tools/refuse-allocations.sh tests flt_c_tests memory` refuses each request for memory in turn.
 #[test]
-fn files_have_their_listings_within_memory(rt: HostRuntime) -> Result<(), Fail> {
-    assert!(rt; wrong_listing(rt.alloc(), &LISTINGS)?.is_none());
+fn files_have_their_listing_within_memory(rt: HostRuntime) -> Result<(), Fail> {
+    let found = listing_of(rt.alloc(), &TEXTS)?;
+    assert!(rt; is_listed(&found));
     Ok(())
 }
 
@@ -246,18 +124,16 @@ fn large_file(alloc: Global) -> Result<Vec<u8>, AllocError> {
 #[test]
 fn a_large_file_is_refused_by_its_number(rt: HostRuntime) -> Result<(), Fail> {
     let alloc = rt.alloc();
+    let mut files = Vec::new(alloc);
+    let small = Vec::from_slice(alloc, b"void f(void) { }")?;
+    files.push(small)?;
     let large = large_file(alloc)?;
-    let files = [
-        File {
-            name: "a.c",
-            bytes: b"void f(void) { }",
-        },
-        File {
-            name: "b.c",
-            bytes: large.as_slice(),
-        },
-    ];
-    let found = functions(alloc, &files)?;
+    files.push(large)?;
+    let options = Options {
+        defined: &[],
+        undefined: &[],
+    };
+    let found = functions(alloc, options, &NAMES, files.as_slice())?;
     assert!(rt; matches!(found, Err((1, Excess::LargeFile))));
     Ok(())
 }

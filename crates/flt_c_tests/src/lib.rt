@@ -1,8 +1,6 @@
-//! Tests of the reader of plain C: the tokens of C files, their directives and items, the bodies of their functions, and listings of these.
+//! Tests of the reader of plain C: the tokens of C files, their directives and items, trees of bodies, and listings.
 #![tactic(auto)]
 
-#[cfg(test)]
-mod bodies;
 #[cfg(test)]
 mod cut;
 #[cfg(test)]

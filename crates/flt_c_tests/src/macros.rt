@@ -9,7 +9,7 @@ use std::test::Fail;
 /// mark of a group has a bracket. The name `KEPT` is never expanded.
 type Case<'a> = (&'a [u8], &'a [u8], &'a [(NoteKind, u32, u32)]);
 
-static CASES: [Case<'static>; 38] = [
+static CASES: [Case<'static>; 46] = [
     // Groups: what is known of a condition decides them; of the others each branch is marked that isn't known to be false.
     (b"a b\n", b"a b ", &[]),
     (b"#if 1\na\n#else\nb\n#endif\nc\n", b"a c ", &[]),
@@ -69,21 +69,77 @@ static CASES: [Case<'static>; 38] = [
         b"KEPT KEPT ",
         &[],
     ),
+    // A use has 4,096 words and ends of bodies: `B` has 17, `C` 145 and `D` 1,169, three of which leave 580 of those behind the body of `E`.
     (
-        b"#define A A A\n#define B A A A A A A A A\n#define C B B B B B B B B\n#define D C C C C C C C C\n#define E D D D D D D D D\nE\n",
-        b"E ",
-        &[(NoteKind::Large, 6, 1)],
+        b"#define A\n#define B A A A A A A A A\n#define C B B B B B B B B\n#define D C C C C C C C C\n#define E D D D D D D D D\nE A E\n",
+        b"B C C C C D D D D B C C C C D D D D ",
+        &[(NoteKind::Large, 6, 1), (NoteKind::Large, 6, 5)],
     ),
-    // Macros with parameters are defined, and stay as they stand. A bracket behind a blank is of the body.
+    // A body isn't read within 16 others.
     (
-        b"#define F(a, b) a\n#if defined(F) && (2 < 0x10) == 1\nF(1, 2)\n#endif\n",
-        b"F ( 1 , 2 ) ",
-        &[(NoteKind::Parameters, 3, 1)],
+        b"#define A B\n#define B C\n#define C D\n#define D E\n#define E F\n#define F G\n#define G H\n#define H I\n#define I J\n#define J K\n#define K L\n#define L M\n#define M N\n#define N O\n#define O P\n#define P Q\n#define Q R\nA B\n",
+        b"Q R ",
+        &[(NoteKind::Large, 18, 1)],
+    ),
+    // Macros with parameters. A bracket behind a blank is of the body.
+    (
+        b"#define F(a, b) a\n#if defined(F) && (2 < 0x10) == 1\nF(1, 2) F (3, ) F\n#endif\n",
+        b"1 3 F ",
+        &[],
+    ),
+    // The example of the C standard.
+    (
+        b"#define x 3\n#define f(a) f(x * (a))\n#undef x\n#define x 2\n#define g f\n#define z z[0]\n#define h g(~\n#define m(a) a(w)\n#define w 0,1\n#define t(a) a\n#define p() int\n#define q(x) x\nf(y+1) + f(f(z)) % t(t(g)(0) + t)(1);\ng(x+(3,4)-w) | h 5) & m\n(f)^m(m);\np() i[q()] = { q(1), };\n",
+        b"f ( 2 * ( y + 1 ) ) + f ( 2 * ( f ( 2 * ( z [ 0 ] ) ) ) ) % f ( 2 * ( 0 ) ) + t ( 1 ) ; f ( 2 * ( 2 + ( 3 , 4 ) - 0 , 1 ) ) | f ( 2 * ( ~ 5 ) ) & f ( 2 * ( 0 , 1 ) ) ^ m ( 0 , 1 ) ; int i [ ] = { 1 , } ; ",
+        &[],
+    ),
+    // What the C standard leaves open is as gcc has it: a name isn't in work any longer where its brackets end behind its body.
+    (
+        b"#define f(a) a*g\n#define g(a) f(a)\nf(2)(9)\n",
+        b"2 * 9 * g ",
+        &[],
     ),
     (
-        b"#define F(...) a\n#define G F\n b G(F)\n",
-        b"b F ( F ) ",
-        &[(NoteKind::Parameters, 3, 4), (NoteKind::Parameters, 3, 6)],
+        b"#define a(x) b(x\n#define b(x) x\na(a) )(1)\n",
+        b"a ( 1 ) ",
+        &[],
+    ),
+    (
+        b"#define NIL(xxx) xxx\n#define G_0(arg) NIL(G_1)(arg)\n#define G_1(arg) NIL(arg)\nG_0(42)\n",
+        b"42 ",
+        &[],
+    ),
+    // Arguments are read before they are put in, and commas in their brackets separate nothing.
+    (
+        b"#define F(a, b) b + a\n#define G(a) F(a, (1, a))\n#define H(a) a a\nG(H(G)(2)) H((,)) H() F(, )\n",
+        b"( 1 , G ( 1 , 2 ) + 2 ) + G ( 1 , 2 ) + 2 ( , ) ( , ) + ",
+        &[],
+    ),
+    // A use that C doesn't allow stays, with its arguments.
+    (
+        b"#define F(a, b) b\n#define G() 1\n#define H(a) a\n F(1) F(H(1), 2, 3) G(1) G() H(2) H(G\n#if 1\n()) H(3)\n#endif\n",
+        b"F ( 1 ) F ( H ( 1 ) , 2 , 3 ) G ( 1 ) 1 2 H ( G ( ) ) 3 ",
+        &[
+            (NoteKind::Arguments, 4, 2),
+            (NoteKind::Arguments, 4, 7),
+            (NoteKind::Arguments, 4, 21),
+            (NoteKind::Open, 4, 35),
+        ],
+    ),
+    // What is behind the named arguments is one, without a comma before it if there is none.
+    (
+        b"#define LOG(f, ...) print(f, ##__VA_ARGS__)\n#define E(...) e(__VA_ARGS__)\n#define P(a, ...) a(__VA_ARGS__)\n#define N 1\nLOG(\"a\") LOG(\"a\", N, (2, 3)) LOG(N, LOG(N)) LOG();\nE() E(N, (2, E(N)));\nP(f) P(f, ) P(E, N, );\n",
+        b"print ( \"a\" ) print ( \"a\" , 1 , ( 2 , 3 ) ) print ( 1 , LOG ( 1 ) ) print ( ) ; e ( ) e ( 1 , ( 2 , e ( 1 ) ) ) ; f ( ) f ( ) e ( 1 , ) ; ",
+        &[],
+    ),
+    (
+        b"#define F(a, b, ...) a\n#define G F\n#define H(a) #a\n#define I(a, ...) , ## a\n b G(1) G(1, ) F H(1) I(1)\n",
+        b"b F ( 1 ) 1 F H ( 1 ) I ( 1 ) ",
+        &[
+            (NoteKind::Arguments, 5, 4),
+            (NoteKind::Parameters, 5, 18),
+            (NoteKind::Parameters, 5, 23),
+        ],
     ),
     (b"#define F (a)\nF\n", b"( a ) ", &[]),
     (b"#define F(a,)\nF\n", b"F ", &[(NoteKind::Malformed, 1, 1)]),
@@ -140,7 +196,7 @@ static CASES: [Case<'static>; 38] = [
     (
         b"#define F(a) a\n#ifdef X\n#define B\n#endif\n#define A B F\nA\n",
         b"[if defined X [end B F ",
-        &[(NoteKind::Parameters, 6, 1), (NoteKind::Undecided, 6, 1)],
+        &[(NoteKind::Undecided, 6, 1)],
     ),
     // The guard of a file is true, unless a line before it knows its name. A line with a body is no guard.
     (
@@ -258,11 +314,11 @@ fn directives_are_read(rt: HostRuntime) -> Result<(), Fail> {
 
 /// A text with a guard, a macro, one with parameters, a definition in a marked group, and notes.
 static LARGEST: Case<'static> = (
-    b"#ifndef H\n#define H\n#define A 1 B\n#define F(a) a\n#if A C\n#define B\nA F KEPT\n#else\n#endif\n#endif\n#endif\n",
-    b"[if A C 1 B F KEPT [else  [end ",
+    b"#ifndef H\n#define H\n#define A 1 B\n#define F(a) a\n#if A C\n#define B\nA F(A) KEPT\n#else\n#endif\n#endif\n#endif\n",
+    b"[if A C 1 B 1 B KEPT [else  [end ",
     &[
         (NoteKind::Undecided, 7, 1),
-        (NoteKind::Parameters, 7, 3),
+        (NoteKind::Undecided, 7, 5),
         (NoteKind::NoGroup, 11, 1),
     ],
 );

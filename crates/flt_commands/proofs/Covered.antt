@@ -64,7 +64,7 @@ use Rattle.flt_files.specs.Inputs.{Giving, given, Says, Text, unread}
 use Rattle.flt_commands_runs.specs.Running.{IsRan}
 use Rattle.flt_commands_texts.specs.Thin.{IsThinned, Decides as DecidesThin}
 use Rattle.flt_words.specs.Request.{Asked, Choice, Check, Analyse, Thin, Run, Replay, Show, Explain}
-use Rattle.flt_words.specs.Request.{Extract, Format, Pages, Emit, EmitInto, Compare, Serve}
+use Rattle.flt_words.specs.Request.{Extract, Format, Pages, Emit, EmitInto, Compare, Functions, Serve}
 use Rattle.flt_commands.specs.declared.answer.Answer.{Answer}
 use Rattle.flt_commands.specs.declared.answer.Answer.TheVariants.{OfText, OfRun, OfExplain}
 use Rattle.flt_commands_explain.specs.declared.answer.ExplainAnswer.{ExplainAnswer}
@@ -73,7 +73,7 @@ use Rattle.flt_commands_runs.specs.declared.answer.RunAnswer.{RunAnswer}
 use Rattle.flt_commands_runs.specs.declared.answer.RunAnswer.TheVariants.{FileRefused, Judged, Ran as has_run, Shown}
 use Rattle.flt_commands_texts.specs.declared.answer.TextAnswer.{TextAnswer}
 use Rattle.flt_commands_texts.specs.declared.answer.TextAnswer.TheVariants.{Accepted, Refused, Certificate as Written, Extracted as has_text}
-use Rattle.flt_commands_texts.specs.declared.answer.TextAnswer.TheVariants.{Formatted as has_layouts, Emitted, NotEmitted, EmittedInto, Compared}
+use Rattle.flt_commands_texts.specs.declared.answer.TextAnswer.TheVariants.{Formatted as has_layouts, Emitted, NotEmitted, EmittedInto, Compared, Listed}
 use Rattle.flt_files.specs.declared.failure.Failure.{Failure}
 
 -- the laws' clauses
@@ -123,6 +123,7 @@ module _ (law : Law) (runs : LawOfRuns) (nowhere : SpelledFailsNowhere) where
   judged text certificate (NotEmitted w) said good = absurd said.decided
   judged text certificate (EmittedInto d) said good = absurd said.decided
   judged text certificate (Compared w) said good = absurd said.decided
+  judged text certificate (Listed l) said good = absurd said.decided
 
   checked : (texts : List Text) (answer : TextAnswer) (file : Text) (cert : Option Text) → IsChecked texts (Ok answer) →
       text_status answer ≡ 0 → IsClean (Check file cert) texts
@@ -143,6 +144,7 @@ module _ (law : Law) (runs : LawOfRuns) (nowhere : SpelledFailsNowhere) where
   left text certificate (NotEmitted w) said good = absurd said.decided
   left text certificate (EmittedInto d) said good = absurd said.decided
   left text certificate (Compared w) said good = absurd said.decided
+  left text certificate (Listed l) said good = absurd said.decided
 
   thinned : (texts : List Text) (answer : TextAnswer) (file : Text) (cert : Option Text) → IsThinned texts (Ok answer) →
       text_status answer ≡ 0 → IsClean (Thin file cert) texts
@@ -163,6 +165,7 @@ module _ (law : Law) (runs : LawOfRuns) (nowhere : SpelledFailsNowhere) where
   analysed (text ∷ []) (NotEmitted w) file said good = absurd said
   analysed (text ∷ []) (EmittedInto d) file said good = absurd said
   analysed (text ∷ []) (Compared w) file said good = absurd said
+  analysed (text ∷ []) (Listed l) file said good = absurd said
   analysed (text ∷ more ∷ texts) answer file said good = said
 
   driven : (texts : List Text) (answer : RunAnswer) (workers : ℕ) (quiet : Bool) (script : Text) (files : List Text) →
@@ -381,6 +384,7 @@ module _ (law : Law) (runs : LawOfRuns) (nowhere : SpelledFailsNowhere) where
   clean_of shown gives (Format mode files) codes texts said bytes status is reported good = tt
   clean_of shown gives (Pages names) codes texts said bytes status is reported good = tt
   clean_of shown gives (Compare files) codes texts said bytes status is reported good = tt
+  clean_of shown gives (Functions defined undefined files) codes texts said bytes status is reported good = tt
   clean_of shown gives (Emit part file cert) codes texts said bytes status is reported good =
       says_clean OfText gives _ texts (IsEmitted part) _ said bytes status
       (λ answer is well. emitted texts answer part file cert is well) is reported good

@@ -9,6 +9,7 @@ pub mod OneComparison
 pub mod OneDecision
 pub mod OneExtraction
 pub mod OneLayout
+pub mod OneListing
 pub mod OneReading
 pub mod OneThin
 pub mod OneVerdict

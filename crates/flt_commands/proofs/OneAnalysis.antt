@@ -18,7 +18,7 @@ use Rattle.flt_commands.specs.Single.{AreSame, SaysOne, seen, told}
 use Rattle.flt_commands_texts.specs.declared.answer.TextAnswer.{TextAnswer}
 use Rattle.flt_commands.specs.declared.answer.Answer.TheVariants.{OfText}
 use Rattle.flt_commands_texts.specs.declared.answer.TextAnswer.TheVariants.{Accepted, Refused, Certificate as Written, Extracted, Formatted}
-use Rattle.flt_commands_texts.specs.declared.answer.TextAnswer.TheVariants.{Emitted, NotEmitted, EmittedInto, Compared}
+use Rattle.flt_commands_texts.specs.declared.answer.TextAnswer.TheVariants.{Emitted, NotEmitted, EmittedInto, Compared, Listed}
 use Rattle.flt_files.specs.declared.failure.Failure.{Failure}
 use Rattle.flt_files.specs.declared.failure.Failure.TheVariants.{Syntax, OutOfMemory}
 
@@ -55,6 +55,7 @@ module _ (graph : (text : Text) (g h : Graph) → HasPoints text g → HasPoints
   answered text (NotEmitted why) x = absurd x
   answered text (EmittedInto driver) x = absurd x
   answered text (Compared why) x = absurd x
+  answered text (Listed found) x = absurd x
 
   answers_once : (text : Text) (a b : TextAnswer) → Judges text (Ok a) → Judges text (Ok b) → seen (Ok (OfText a)) ≡ seen (Ok (OfText b))
   answers_once text (Written c) (Written d) x y = let same : c.items ≡ d.items = certified_once text c.items d.items x y in cc
@@ -68,6 +69,7 @@ module _ (graph : (text : Text) (g h : Graph) → HasPoints text g → HasPoints
   answers_once text (Written c) (NotEmitted why) x y = absurd y
   answers_once text (Written c) (EmittedInto driver) x y = absurd y
   answers_once text (Written c) (Compared why) x y = absurd y
+  answers_once text (Written c) (Listed found) x y = absurd y
   answers_once text (Refused f) Accepted x y = absurd y
   answers_once text (Refused f) (Extracted bytes) x y = absurd y
   answers_once text (Refused f) (Formatted mode found) x y = absurd y
@@ -75,6 +77,7 @@ module _ (graph : (text : Text) (g h : Graph) → HasPoints text g → HasPoints
   answers_once text (Refused f) (NotEmitted why) x y = absurd y
   answers_once text (Refused f) (EmittedInto driver) x y = absurd y
   answers_once text (Refused f) (Compared why) x y = absurd y
+  answers_once text (Refused f) (Listed found) x y = absurd y
   answers_once text Accepted b x y = absurd x
   answers_once text (Extracted bytes) b x y = absurd x
   answers_once text (Formatted mode found) b x y = absurd x
@@ -82,6 +85,7 @@ module _ (graph : (text : Text) (g h : Graph) → HasPoints text g → HasPoints
   answers_once text (NotEmitted why) b x y = absurd x
   answers_once text (EmittedInto driver) b x y = absurd x
   answers_once text (Compared why) b x y = absurd x
+  answers_once text (Listed found) b x y = absurd x
 
   not_both : (text : Text) (a : TextAnswer) (f : Failure) → Judges text (Ok a) → IsFailure text f → f ≢ OutOfMemory → ⊥
   not_both text a (Syntax e) x y told = let found = answered text a x in nowhere text found.0 e found.1 y

@@ -14,13 +14,15 @@ use Rattle.flt_commands.specs.Commands.{Answers, AnswersFor, IsReported, IsSaid,
 use Rattle.flt_commands_texts.specs.Compare.{IsCompared}
 use Rattle.flt_commands_texts.specs.Extract.{IsExtracted}
 use Rattle.flt_commands_texts.specs.Format.{IsFormatSaid}
+use Rattle.flt_commands_texts.specs.Functions.{AreListed}
+use Rattle.flt_c_functions.specs.Options.{lines_of}
 use Rattle.flt_files.specs.Inputs.{Giving, Says, Text, gives_but, gives_if, gives_text, kept}
 use Rattle.flt_files.specs.Names.{names_of}
 use Rattle.flt_commands_runs.specs.Replay.{IsReplayed}
 use Rattle.flt_commands.specs.Single.{AreSame, AskForOne, GivesOne, HasOneAnswer, SaysOne, seen, told}
 use Rattle.flt_commands_texts.specs.Thin.{IsThinned}
 use Rattle.flt_words.specs.Request.{Asked, Check, Analyse, Thin, Run, Replay, Show, Explain}
-use Rattle.flt_words.specs.Request.{Extract, Format, Pages, Emit, EmitInto, Compare, Serve}
+use Rattle.flt_words.specs.Request.{Extract, Format, Pages, Emit, EmitInto, Compare, Functions, Serve}
 use Rattle.flt_commands.specs.declared.answer.Answer.{Answer}
 use Rattle.flt_commands.specs.declared.answer.Answer.TheVariants.{OfRun, OfText}
 use Rattle.flt_files.specs.declared.failure.Failure.{Failure}
@@ -96,6 +98,7 @@ module _ (gives : Giving) (one : GivesOne gives) where
   gives_one (Emit part file cert) = but_once cert
   gives_one (EmitInto folder is_forced file cert) = one
   gives_one (Compare files) = one
+  gives_one (Functions defined undefined files) = one
   gives_one Serve = one
 
 -- the standard input can't be read for a server
@@ -121,7 +124,8 @@ module _ {A : Type 0} (kind : A → Answer) where
       (says_once gives one kind names IsSaidOf once texts more)
 
 module _ (checked : SaysOne OfText IsChecked) (analysed : SaysOne OfText IsAnalysed) (thinned : SaysOne OfText IsThinned)
-    (replayed : SaysOne OfRun IsReplayed) (nowhere : SpelledFailsNowhere) where
+    (replayed : SaysOne OfRun IsReplayed) (listed : (lines names : List Text) → SaysOne OfText (AreListed lines names))
+    (nowhere : SpelledFailsNowhere) where
   -- of what is asked for one thing is said at most
   pub said_once : (gives : Giving) (shown showing : Bool) (request : Asked) (codes others : List (Option Text)) (texts more : List Text)
       (a b : Result Answer Failure) → HasOneAnswer request → GivesOne gives → IsSaid shown gives request codes texts a →
@@ -153,6 +157,9 @@ module _ (checked : SaysOne OfText IsChecked) (analysed : SaysOne OfText IsAnaly
   said_once gives shown showing (EmitInto folder is_forced file cert) codes others texts more a b has one x y = absurd has
   said_once gives shown showing (Compare files) codes others texts more a b has one x y =
       says_of_one_kind OfText gives one (names_of (Compare files)) (IsCompared files) (compares_once files) texts more a b x y
+  said_once gives shown showing (Functions defined undefined files) codes others texts more a b has one x y =
+      says_of_one_kind OfText gives one (names_of (Functions defined undefined files)) (AreListed (lines_of defined undefined) files)
+      (listed (lines_of defined undefined) files) texts more a b x y
   said_once gives shown showing Serve codes others texts more a b has one x y = unserved_once a b x y
 
   -- one thing is printed at most, with one exit status

@@ -9,7 +9,7 @@ use Rattle.flt_commands_texts.specs.Check.{Decides}
 use Rattle.flt_commands.specs.Single.{seen}
 use Rattle.flt_commands.specs.declared.answer.Answer.TheVariants.{OfText}
 use Rattle.flt_commands_texts.specs.declared.answer.TextAnswer.TheVariants.{Accepted, Refused, Certificate as Written, Extracted, Formatted}
-use Rattle.flt_commands_texts.specs.declared.answer.TextAnswer.TheVariants.{Emitted, NotEmitted, EmittedInto, Compared}
+use Rattle.flt_commands_texts.specs.declared.answer.TextAnswer.TheVariants.{Emitted, NotEmitted, EmittedInto, Compared, Listed}
 
 -- the laws' clauses
 abbrev pub HasOneFault : Type 0
@@ -30,6 +30,7 @@ module _ (one : HasOneFault) (none : CoversWithoutFault) where
   checks_once g c Accepted (NotEmitted why) x y = absurd y
   checks_once g c Accepted (EmittedInto driver) x y = absurd y
   checks_once g c Accepted (Compared why) x y = absurd y
+  checks_once g c Accepted (Listed found) x y = absurd y
   checks_once g c (Refused f) Accepted x y = absurd (none g c f y x)
   checks_once g c (Refused f) (Refused h) x y = ap (λ r. seen (Ok (OfText (Refused r)))) (one g c f h x y)
   checks_once g c (Refused f) (Written d) x y = absurd y
@@ -39,6 +40,7 @@ module _ (one : HasOneFault) (none : CoversWithoutFault) where
   checks_once g c (Refused f) (NotEmitted why) x y = absurd y
   checks_once g c (Refused f) (EmittedInto driver) x y = absurd y
   checks_once g c (Refused f) (Compared why) x y = absurd y
+  checks_once g c (Refused f) (Listed found) x y = absurd y
   checks_once g c (Written d) b x y = absurd x
   checks_once g c (Extracted bytes) b x y = absurd x
   checks_once g c (Formatted mode found) b x y = absurd x
@@ -46,3 +48,4 @@ module _ (one : HasOneFault) (none : CoversWithoutFault) where
   checks_once g c (NotEmitted why) b x y = absurd x
   checks_once g c (EmittedInto driver) b x y = absurd x
   checks_once g c (Compared why) b x y = absurd x
+  checks_once g c (Listed found) b x y = absurd x

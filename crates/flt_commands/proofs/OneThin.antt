@@ -6,7 +6,7 @@ use Rattle.flt_commands.specs.Single.{seen}
 use Rattle.flt_commands_texts.specs.Thin.{Decides}
 use Rattle.flt_commands.specs.declared.answer.Answer.TheVariants.{OfText}
 use Rattle.flt_commands_texts.specs.declared.answer.TextAnswer.TheVariants.{Accepted, Refused, Certificate as Written, Extracted, Formatted}
-use Rattle.flt_commands_texts.specs.declared.answer.TextAnswer.TheVariants.{Emitted, NotEmitted, EmittedInto, Compared}
+use Rattle.flt_commands_texts.specs.declared.answer.TextAnswer.TheVariants.{Emitted, NotEmitted, EmittedInto, Compared, Listed}
 
 module _ (one : HasOneFault) (none : CoversWithoutFault) where
   -- of a graph and a certificate one answer is decided at most
@@ -20,6 +20,7 @@ module _ (one : HasOneFault) (none : CoversWithoutFault) where
   thins_once g c (Written d) (NotEmitted why) x y = absurd y
   thins_once g c (Written d) (EmittedInto driver) x y = absurd y
   thins_once g c (Written d) (Compared why) x y = absurd y
+  thins_once g c (Written d) (Listed found) x y = absurd y
   thins_once g c (Refused f) (Written d) x y = absurd (none g c f y.0 x)
   thins_once g c (Refused f) (Refused h) x y = ap (λ r. seen (Ok (OfText (Refused r)))) (one g c f h x y)
   thins_once g c (Refused f) Accepted x y = absurd y
@@ -29,6 +30,7 @@ module _ (one : HasOneFault) (none : CoversWithoutFault) where
   thins_once g c (Refused f) (NotEmitted why) x y = absurd y
   thins_once g c (Refused f) (EmittedInto driver) x y = absurd y
   thins_once g c (Refused f) (Compared why) x y = absurd y
+  thins_once g c (Refused f) (Listed found) x y = absurd y
   thins_once g c Accepted b x y = absurd x
   thins_once g c (Extracted bytes) b x y = absurd x
   thins_once g c (Formatted mode found) b x y = absurd x
@@ -36,3 +38,4 @@ module _ (one : HasOneFault) (none : CoversWithoutFault) where
   thins_once g c (NotEmitted why) b x y = absurd x
   thins_once g c (EmittedInto driver) b x y = absurd x
   thins_once g c (Compared why) b x y = absurd x
+  thins_once g c (Listed found) b x y = absurd x

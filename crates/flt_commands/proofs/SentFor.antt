@@ -17,7 +17,7 @@ use Rattle.flt_door.specs.Lines.{Shows}
 use Rattle.flt_files.specs.Inputs.{Giving, Text}
 use Rattle.flt_words.specs.Request.{Asked, Check, Analyse, Thin, Run, Replay, Show, Explain}
 use Rattle.flt_words.specs.declared.request.FormatMode.TheVariants.{Print}
-use Rattle.flt_words.specs.Request.{Extract, Format, Pages, Emit, EmitInto, Compare, Serve}
+use Rattle.flt_words.specs.Request.{Extract, Format, Pages, Emit, EmitInto, Compare, Functions, Serve}
 
 -- where the user's bytes are asked for, nothing goes out before the end
 gives_at_end : (request : Option Asked) → gives_bytes request ≡ true → HoldsBack request
@@ -100,4 +100,5 @@ cut_short_for gives (Some (Pages names)) old = Appends-nil old
 cut_short_for gives (Some (Emit part file cert)) old = Appends-nil old
 cut_short_for gives (Some (EmitInto folder is_forced file cert)) old = Appends-nil old
 cut_short_for gives (Some (Compare files)) old = Appends-nil old
+cut_short_for gives (Some (Functions defined undefined files)) old = Appends-nil old
 cut_short_for gives (Some Serve) old = Appends-nil old

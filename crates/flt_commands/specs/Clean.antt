@@ -9,7 +9,7 @@ use Rattle.flt_files.specs.Inputs.{Text}
 use Rattle.flt_syntax.specs.Texts.{AreSpelled}
 use Rattle.flt_files.specs.Split.{IsCertificateStart}
 use Rattle.flt_words.specs.Request.{Asked, Check, Analyse, Thin, Run, Replay, Show, Explain}
-use Rattle.flt_words.specs.Request.{Extract, Format, Pages, Emit, EmitInto, Compare, Serve}
+use Rattle.flt_words.specs.Request.{Extract, Format, Pages, Emit, EmitInto, Compare, Functions, Serve}
 
 -- the filter that the text spells breaks nothing: whatever transitions are tried on it, in whatever order and however many
 abbrev pub BreaksNothing : Text → Type 0
@@ -43,6 +43,7 @@ IsClean (Extract of_map files) texts = Unit {0}
 IsClean (Format mode files) texts = Unit {0}
 IsClean (Pages names) texts = Unit {0}
 IsClean (Compare files) texts = Unit {0}
+IsClean (Functions defined undefined files) texts = Unit {0}
 IsClean (Emit part file cert) (text ∷ []) = BreaksNothing text
 IsClean (Emit part file cert) (text ∷ certificate ∷ []) = BreaksNothing text
 IsClean (EmitInto folder is_forced file cert) (text ∷ []) = BreaksNothing text

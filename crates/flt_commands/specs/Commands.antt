@@ -21,6 +21,8 @@ use Rattle.flt_commands_texts.specs.Extract.{IsExtracted}
 use Rattle.flt_commands.specs.FailureLine.{failure_line}
 use Rattle.flt_commands_texts.specs.LayoutRemarks.{remarks_in}
 use Rattle.flt_commands_texts.specs.Format.{AreChanged, IsFormatSaid}
+use Rattle.flt_commands_texts.specs.Functions.{AreListed}
+use Rattle.flt_c_functions.specs.Options.{lines_of}
 use Rattle.flt_files.specs.Inputs.{Giving, IsUnread, Says, Text, gives_but}
 use Rattle.flt_files.specs.Names.{names_of}
 use Rattle.flt_commands_explain.specs.Remarks.{IsFound}
@@ -28,7 +30,7 @@ use Rattle.flt_commands_runs.specs.Replay.{IsKeptAs, IsReplayed, IsShown}
 use Rattle.flt_commands_runs.specs.Running.{IsRan}
 use Rattle.flt_commands_texts.specs.Thin.{IsThinned}
 use Rattle.flt_words.specs.Request.{Asked, Check, Analyse, Thin, Run, Replay, Show, Explain}
-use Rattle.flt_words.specs.Request.{Extract, Format, Pages, Emit, EmitInto, Compare, Serve}
+use Rattle.flt_words.specs.Request.{Extract, Format, Pages, Emit, EmitInto, Compare, Functions, Serve}
 use Rattle.flt_words.specs.declared.request.FormatMode.TheVariants.{Print, Write}
 use Rattle.flt_commands.specs.declared.answer.Answer.{Answer}
 use Rattle.flt_commands.specs.declared.answer.Answer.TheVariants.{OfText, OfRun, OfExplain}
@@ -77,6 +79,8 @@ IsSaid shown gives (Emit part file cert) codes texts = IsOf OfText (Says gives (
 IsSaid shown gives (EmitInto folder is_forced file cert) codes texts =
     IsOf OfText (Says gives (names_of (EmitInto folder is_forced file cert)) (IsEmittedInto gives is_forced folder) texts)
 IsSaid shown gives (Compare files) codes texts = IsOf OfText (Says gives (names_of (Compare files)) (IsCompared files) texts)
+IsSaid shown gives (Functions defined undefined files) codes texts =
+    IsOf OfText (Says gives (names_of (Functions defined undefined files)) (AreListed (lines_of defined undefined) files) texts)
 IsSaid shown gives Serve codes texts = IsUnserved
 
 -- ---- how that is printed

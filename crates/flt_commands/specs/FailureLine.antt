@@ -7,7 +7,8 @@ use Rattle.flt_words.specs.Shown.{visible}
 use Rattle.flt_syntax.specs.declared.fault.SyntaxFault.{SyntaxFault}
 use Rattle.flt_files.specs.declared.failure.Failure.{Failure}
 use Rattle.flt_files.specs.declared.failure.Failure.TheVariants.{CannotRead, CannotWrite, NoFile, TooManyFiles, Syntax, FileSyntax}
-use Rattle.flt_files.specs.declared.failure.Failure.TheVariants.{Certificate, JournalLine, ScriptLine, Flawed, Altitude, OutOfMemory}
+use Rattle.flt_files.specs.declared.failure.Failure.TheVariants.{Certificate, JournalLine, ScriptLine, Flawed, TooManyWords}
+use Rattle.flt_files.specs.declared.failure.Failure.TheVariants.{Altitude, OutOfMemory}
 
 -- the first fault of the text of a file of several
 abbrev pub file_syntax_line : ℕ → SyntaxFault → List ℕ
@@ -25,5 +26,7 @@ failure_line (Certificate line) = codes "certificate line " ++ decimal line
 failure_line (JournalLine line) = codes "journal line " ++ decimal line
 failure_line (ScriptLine line) = codes "script line " ++ decimal line
 failure_line (Flawed name flaw) = flaw_line (visible name.now) flaw
+failure_line (TooManyWords name line column) =
+    visible name.now ++ (codes ":" ++ (decimal line ++ (codes ":" ++ (decimal column ++ codes ": too many words"))))
 failure_line (Altitude file) = codes "altitude file " ++ decimal file
 failure_line OutOfMemory = codes "out of memory"

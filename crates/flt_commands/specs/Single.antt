@@ -6,7 +6,7 @@ use Rattle.flt_commands.specs.Answer.{answered, output, status_of}
 use Rattle.flt_files.specs.Inputs.{Giving, Text}
 use Rattle.flt_commands.specs.declared.answer.Answer.{Answer}
 use Rattle.flt_files.specs.declared.failure.Failure.{Failure}
-use Rattle.flt_files.specs.declared.failure.Failure.TheVariants.{CannotRead, Flawed, OutOfMemory}
+use Rattle.flt_files.specs.declared.failure.Failure.TheVariants.{CannotRead, Flawed, TooManyWords, OutOfMemory}
 
 -- for each name one thing is given at most: its bytes, or none
 abbrev pub GivesOne : Giving → Type 0
@@ -16,6 +16,7 @@ GivesOne gives = (name : Text) (a b : Option Text) → gives name a → gives na
 abbrev pub told : Failure → Failure
 told (CannotRead name) = CannotRead (record { ref_ptr = (0, 0); now = name.now })
 told (Flawed name flaw) = Flawed (record { ref_ptr = (0, 0); now = name.now }) flaw
+told (TooManyWords name line column) = TooManyWords (record { ref_ptr = (0, 0); now = name.now }) line column
 told f = f
 
 -- what is seen of what is said: the output and the exit status, or why there is none
@@ -28,10 +29,9 @@ abbrev pub AreSame : Result Answer Failure → Result Answer Failure → Type 0
 AreSame a b = a ≢ Err OutOfMemory → b ≢ Err OutOfMemory → seen a ≡ seen b
 
 -- of what is asked for one thing is said at most: of all but a run, a journal that is shown, reports, pages, layouts that are written and a
--- part of a driver. A
--- run's journal is legal, but which journal it is stands in no clause; nor is it said which of several runs a report shows, and there is no
--- more of rows than what stands below them, and of a page than how it begins. Of a driver it isn't said in which order the contexts of the
--- instance are listed, nor which of several contexts with two kinds is named
+-- part of a driver. A run's journal is legal, but which journal it is stands in no clause; nor is it said which of several runs a report
+-- shows, and there is no more of rows than what stands below them, and of a page than how it begins. Of a driver it isn't said in which
+-- order the contexts of the instance are listed, nor which of several contexts with two kinds is named
 abbrev pub HasOneAnswer : Asked → Type 0
 HasOneAnswer (Run workers quiet script files) = ⊥
 HasOneAnswer (Show timeline picture journal files) = ⊥

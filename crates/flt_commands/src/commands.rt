@@ -20,7 +20,7 @@ use flt_commands_runs::{
 };
 use flt_commands_texts::{
     analyse_file, check_files, compare_files, emit_files, emit_files_into, extract_files,
-    into_remark, thin_files,
+    into_remark, list_functions, thin_files,
 };
 use flt_door::all_that_goes_out_is_shown;
 use flt_files::{Contents, Failure, Inputs, Pictures, Texts};
@@ -265,6 +265,21 @@ fn report_of<
         }
         Request::Compare { files } => {
             let said = compare_files(alloc, inputs, files.as_slice(), &mut contents);
+            report_on(alloc, Vec::new(alloc), of_text(said), contents)
+        }
+        Request::Functions {
+            defined,
+            undefined,
+            files,
+        } => {
+            let said = list_functions(
+                alloc,
+                inputs,
+                defined.as_slice(),
+                undefined.as_slice(),
+                files.as_slice(),
+                &mut contents,
+            );
             report_on(alloc, Vec::new(alloc), of_text(said), contents)
         }
         Request::Serve => { report_on(alloc, Vec::new(alloc), unserved(), contents) }

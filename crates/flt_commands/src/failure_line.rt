@@ -51,6 +51,10 @@ pub(crate) fn failure_line(alloc: Global, failure: &Failure<'_>) -> Result<Strin
         Failure::JournalLine(line) => format!(in alloc; "journal line {line}"),
         Failure::ScriptLine(line) => format!(in alloc; "script line {line}"),
         Failure::Flawed(name, flaw) => flaw_line(alloc, name, *flaw),
+        Failure::TooManyWords(name, line, column) => {
+            let name = visible(alloc, name)?;
+            format!(in alloc; "{name}:{line}:{column}: too many words")
+        }
         Failure::Altitude(file) => format!(in alloc; "altitude file {file}"),
         Failure::OutOfMemory => String::from_str(alloc, "out of memory"),
     }

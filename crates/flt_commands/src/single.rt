@@ -5,6 +5,7 @@ ghost use Rattle.flt_commands_texts.specs.Analyse.{IsAnalysed};
 ghost use Rattle.flt_files.specs.Attempts.{Does};
 ghost use Rattle.flt_commands_texts.specs.Check.{HasPoints, IsChecked};
 ghost use Rattle.flt_commands.specs.Commands.{Answers, IsSaid};
+ghost use Rattle.flt_commands_texts.specs.Functions.{AreListed};
 ghost use Rattle.flt_files.specs.Inputs.{Text};
 ghost use Rattle.flt_commands_runs.specs.Replay.{IsReplayed};
 ghost use Rattle.flt_commands.specs.Single as spec;
@@ -17,6 +18,7 @@ ghost use Rattle.flt_commands.specs.declared.report.Report.{Report};
 ghost use Rattle.flt_graph.specs.declared.graph.Graph.{Graph};
 
 use flt_analyse::{one_certificate_is_least, one_fault_is_named};
+use flt_c_functions::lists_at_most_one;
 use flt_cert::{one_certificate_is_spelled, one_fault_is_first};
 use flt_check::one_refusal_at_most;
 use flt_files::{Inputs, Pictures};
@@ -77,6 +79,13 @@ fn one_verdict_at_most()
     one_first_fault_at_most();
 }
 
+/// `draft --functions` has at most one answer to some bytes of files of these names. It does nothing at run time: its clause is the law.
+fn one_listing_at_most()
+    ensures { (lines names : List Text) → spec.SaysOne OfText (AreListed lines names) }
+{
+    lists_at_most_one();
+}
+
 /// A command line has at most one answer if the inputs give one thing for each name and it asks for no run, no journal that is shown, no
 /// reports, no page, no layout that is written and no part of a driver. It has one output and one exit status at most, and one reason why
 /// there is no answer, unless memory ran out. It does nothing at run time: its clauses are the law.
@@ -95,5 +104,6 @@ pub fn one_answer_at_most<I: Inputs, P: Pictures>()
     one_analysis_at_most();
     one_thin_at_most();
     one_verdict_at_most();
+    one_listing_at_most();
     fails_exactly_where_nothing_is_spelled();
 }

@@ -1,5 +1,5 @@
 -- How the answers of commands on texts and C files are written. This project's own program.
-use Rattle.std.specs.Prelude.{ℕ, List, [], ◌∷◌, ◌++◌, codes, flat_map}
+use Rattle.std.specs.Prelude.{ℕ, Bool, if◌then◌else◌, List, [], ◌∷◌, ◌++◌, codes, flat_map}
 use Rattle.std.specs.Fmt.{decimal}
 use Rattle.flt_files.specs.Unread.{status_beside}
 use Rattle.flt_rules.specs.Refusal.{refusal_line}
@@ -8,7 +8,7 @@ use Rattle.flt_commands_texts.specs.Driver.{driver_status}
 use Rattle.flt_commands_texts.specs.Outcomes.{files_status, printed}
 use Rattle.flt_commands_texts.specs.declared.answer.TextAnswer.{TextAnswer}
 use Rattle.flt_commands_texts.specs.declared.answer.TextAnswer.TheVariants.{Accepted, Refused, Certificate, Extracted, Formatted}
-use Rattle.flt_commands_texts.specs.declared.answer.TextAnswer.TheVariants.{Emitted, NotEmitted, EmittedInto, Compared}
+use Rattle.flt_commands_texts.specs.declared.answer.TextAnswer.TheVariants.{Emitted, NotEmitted, EmittedInto, Compared, Listed}
 use Rattle.flt_commands_texts.specs.declared.emit.EmitFault.{EmitFault}
 use Rattle.flt_commands_texts.specs.declared.emit.EmitFault.TheVariants.{Kinds, Create, Return}
 
@@ -36,6 +36,11 @@ output (Emitted bytes) = bytes.items
 output (NotEmitted why) = unemitted_line why ++ 10 ∷ []
 output (EmittedInto driver) = []
 output (Compared found) = printed_comparison found
+output (Listed found) = found.text.items
+
+-- of a listing, where all is read, and where something isn't
+abbrev pub listing_status : Bool → ℕ
+listing_status whole = if whole then 0 else 1
 
 -- the exit status: 0 where the certificate covers or is found, of annotations, and of a part of a driver; of layouts, their own, where each
 -- file is read; 1 for any other answer
@@ -49,3 +54,4 @@ status_of (Emitted bytes) = 0
 status_of (NotEmitted why) = 1
 status_of (EmittedInto driver) = driver_status driver.outcome
 status_of (Compared found) = compared_status found.reports.items
+status_of (Listed found) = listing_status found.is_whole

@@ -8,6 +8,7 @@ pub mod Emit
 pub mod EmitInto
 pub mod Extract
 pub mod Format
+pub mod Functions
 pub mod LayoutRemarks
 pub mod Outcomes
 pub mod Stamp

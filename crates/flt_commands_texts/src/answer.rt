@@ -7,6 +7,7 @@ use crate::comparison::{Comparison, comparison_status, printed_comparison};
 use crate::driver::{Driver, driver_status};
 use crate::emit::EmitFault;
 use crate::outcomes::{Outcomes, files_status, printed_files};
+use flt_c_functions::Listing;
 use flt_files::status_beside;
 use flt_rules::Refusal;
 use flt_words::FormatMode;
@@ -34,6 +35,15 @@ pub enum TextAnswer {
     EmittedInto(Driver),
     /// The comparison of C files with their annotations.
     Compared(Comparison),
+    /// The functions and tables of C files.
+    Listed(Listing),
+}
+
+/// The exit status of a listing: 1 if something isn't read.
+fn listing_status(is_whole: bool) -> u8
+    ensures { result ≡ spec.listing_status is_whole }
+{
+    if is_whole { 0 } else { 1 }
 }
 
 impl TextAnswer {
@@ -51,6 +61,7 @@ impl TextAnswer {
             }
             TextAnswer::Refused(_) | TextAnswer::NotEmitted(_) => 1,
             TextAnswer::Compared(found) => comparison_status(found),
+            TextAnswer::Listed(found) => listing_status(found.is_whole),
         }
     }
 
@@ -64,6 +75,7 @@ impl TextAnswer {
             TextAnswer::Emitted(bytes) => return Ok(bytes),
             TextAnswer::EmittedInto(_) => return Ok(Vec::new(alloc)),
             TextAnswer::Compared(found) => return printed_comparison(alloc, found),
+            TextAnswer::Listed(found) => return Ok(found.text),
             TextAnswer::Formatted(mode, found) => {
                 return printed_files(alloc, mode, found.files.as_slice());
             }

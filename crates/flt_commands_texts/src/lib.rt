@@ -1,5 +1,5 @@
-//! The commands on texts and C files, but `explain`: `check`, `analyse`, `thin`, `extract`, `compare`, `format` and `emit`, each with the
-//! answer on the names that it is given.
+//! The commands on texts and C files, but `explain`: `check`, `analyse`, `thin`, `extract`, `compare`, `draft`, `format` and `emit`, each
+//! with the answer on the names that it is given.
 #![tactic(auto)]
 
 mod analyse;
@@ -12,6 +12,7 @@ mod emit;
 mod emit_into;
 mod extract;
 mod format;
+mod functions;
 mod layout_remarks;
 mod outcomes;
 mod stamp;
@@ -27,6 +28,7 @@ pub use emit::{EmitFault, emit_files};
 pub use emit_into::{emit_files_into, into_remark};
 pub use extract::extract_files;
 pub use format::format_files;
+pub use functions::list_functions;
 pub use layout_remarks::all_remarks;
 pub use outcomes::{FileOutcome, Outcome, Outcomes};
 pub use thin::thin_files;

@@ -2,7 +2,7 @@
 use Rattle.std.specs.Prelude.{List, [], ◌∷◌, Some, None}
 use Rattle.flt_files.specs.Inputs.{Text}
 use Rattle.flt_words.specs.Request.{Asked, Check, Analyse, Thin, Run, Replay, Show, Explain}
-use Rattle.flt_words.specs.Request.{Extract, Format, Pages, Emit, EmitInto, Compare, Serve}
+use Rattle.flt_words.specs.Request.{Extract, Format, Pages, Emit, EmitInto, Compare, Functions, Serve}
 
 -- the names that are read, in this order
 abbrev pub names_of : Asked → List Text
@@ -23,4 +23,5 @@ names_of (Emit part file (Some cert)) = file ∷ cert ∷ []
 names_of (EmitInto folder is_forced file None) = file ∷ []
 names_of (EmitInto folder is_forced file (Some cert)) = file ∷ cert ∷ []
 names_of (Compare files) = files
+names_of (Functions defined undefined files) = files
 names_of Serve = []

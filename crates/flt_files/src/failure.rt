@@ -29,6 +29,8 @@ pub enum Failure<'a> {
     ScriptLine(usize),
     /// The flaw of the C file of a name.
     Flawed(&'a str, Flaw),
+    /// The C files up to the one of this name have too many different words: the first too many is at this line and column, from 1.
+    TooManyWords(&'a str, u32, u32),
     /// The first file, from 0, whose altitude an earlier one has.
     Altitude(usize),
     OutOfMemory,

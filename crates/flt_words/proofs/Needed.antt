@@ -10,8 +10,8 @@ use Rattle.clap.specs.Simple.{App, Shape, built, built_leaf, entered, inherited,
 use Rattle.clap.specs.Simple.{marked_built, names_of, on_top, rows_at, subcommand_of, with_leaf_noted}
 use Rattle.clap.specs.Walk.{Names, Rule, Text, Walk, answers_to, finished, nothing_held, settled, walk_from, walked}
 use Rattle.flt_words.specs.Words.{IsFirst}
-use Rattle.flt_words.specs.Program.{analyse_app, app_for, check_app, compare_app, emit_app, explain_app, extract_app}
-use Rattle.flt_words.specs.Program.{format_app, program_app, program_with, replay_app, run_app, serve_app, thin_app}
+use Rattle.flt_words.specs.Program.{analyse_app, app_for, check_app, compare_app, draft_app, emit_app, explain_app}
+use Rattle.flt_words.specs.Program.{extract_app, format_app, program_app, program_with, replay_app, run_app, serve_app, thin_app}
 
 -- ---- a walk that has met its command
 
@@ -207,6 +207,16 @@ compare_named = record {
   free = refl;
 }
 
+draft_named : IsNamed (codes "draft") draft_app
+unfolding clap_on_literals met leaf
+draft_named = record {
+  alone = record { unnamed = refl; first = refl; fine = refl; found = refl };
+  among = record { unnamed = refl; first = refl; fine = refl; found = refl };
+  tops = refl;
+  plain = refl;
+  free = refl;
+}
+
 serve_named : IsNamed (codes "serve") serve_app
 unfolding clap_on_literals met leaf
 serve_named = record {
@@ -252,7 +262,8 @@ module _ (word : Text) (rest : List Text) where
       (or (codes "run") run_app _ _ refl run_named (or (codes "replay") replay_app _ _ refl replay_named
       (or (codes "extract") extract_app _ _ refl extract_named (or (codes "format") format_app _ _ refl format_named
       (or (codes "emit") emit_app _ _ refl emit_named (or (codes "compare") compare_app _ _ refl compare_named
-      (or (codes "serve") serve_app _ _ refl serve_named (whole (word ∷ rest))))))))))))
+      (or (codes "draft") draft_app _ _ refl draft_named (or (codes "serve") serve_app _ _ refl serve_named
+      (whole (word ∷ rest)))))))))))))
 
 -- the program that is built for a word serves the words that begin with it
 pub serves : (word : Text) (words : List Text) → IsFirst word words → Serves (app_for word) words

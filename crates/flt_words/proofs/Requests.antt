@@ -1,6 +1,8 @@
 -- What the matches of a command line ask for.
-use Rattle.std.proofs.Common.{◌≡◌, inl, inr, List, [], ◌∷◌, true, false, Option, Some, None, Bor, Vec, Global, Result}
+use Rattle.std.proofs.Common.{◌≡◌, inl, inr, List, [], ◌∷◌, Bool, true, false, Option, Some, None, Bor, Vec, Global, Result}
 use Rattle.std.proofs.Common.{Ok, Err, IfOk, refl, sym, ◌∙◌, ap, option_map, option_and_then, unwrap_or, map}
+use Rattle.std.proofs.lemmas.List.Folds.{list_all-map}
+use Rattle.std.specs.List.{list_all}
 use Rattle.std.specs.Option.{IsSomeAnd, option_map_or}
 use Rattle.std.specs.declared.alloc.AllocError.{AllocError}
 use Rattle.clap.specs.Built.{AddsSubcommand}
@@ -102,6 +104,15 @@ texts_or o xs s is copied = rw (is, copied) refl
 pub no_texts_or : (o : Option (Bor (List (Bor Text)))) (xs : List (Bor Text)) → o ≡ None → xs ≡ [] →
     map (λ (v : Bor Text). v.now) xs ≡ unwrap_or (option_map (λ s. map (λ (v : Bor Text). v.now) s.now) o) []
 no_texts_or o xs is none = rw (is, none) refl
+
+-- what holds of each text of an option
+module _ (p : Text → Bool) (o : Option (Bor (List (Bor Text)))) (all : Option (List Text))
+    (given : option_map (λ s. map (λ (v : Bor Text). v.now) s.now) o ≡ all) where
+  pub each_taken : (s : Bor (List (Bor Text))) → o ≡ Some s → list_all (λ (v : Bor Text). p v.now) s.now ≡ list_all p (unwrap_or all [])
+  each_taken s is = rw (← given, is, list_all-map p (λ (v : Bor Text). v.now) s.now) refl
+
+  pub none_taken : o ≡ None → true ≡ list_all p (unwrap_or all [])
+  none_taken none = rw (← given, none) refl
 
 -- a subcommand more
 module _ (old sub : Command) (a s : App) (one : IsCommand old a) (other : IsCommand sub s) where

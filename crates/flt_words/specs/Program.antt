@@ -117,6 +117,18 @@ into_rule = record (new_rule (codes "into")) { long = Some (codes "into"); value
 abbrev pub force_rule : Rule
 force_rule = record (new_rule (codes "force")) { long = Some (codes "force"); action = Some SetTrue }
 
+-- `--functions`
+abbrev pub functions_rule : Rule
+functions_rule = record (new_rule (codes "functions")) { long = Some (codes "functions"); action = Some SetTrue }
+
+-- `--define NAME[=VALUE]`, any number of times
+abbrev pub define_rule : Rule
+define_rule = record (new_rule (codes "define")) { long = Some (codes "define"); value_names = 1; action = Some Append }
+
+-- `--undef NAME`, any number of times
+abbrev pub undef_rule : Rule
+undef_rule = record (new_rule (codes "undef")) { long = Some (codes "undef"); value_names = 1; action = Some Append }
+
 -- ---- commands
 
 abbrev pub bare_check_app : App
@@ -189,6 +201,13 @@ bare_compare_app = new_app (codes "compare")
 abbrev pub compare_app : App
 compare_app = with_rule bare_compare_app texts_rule
 
+abbrev pub bare_draft_app : App
+bare_draft_app = new_app (codes "draft")
+
+-- `draft --functions [--define NAME[=VALUE]].. [--undef NAME].. FILE..`
+abbrev pub draft_app : App
+draft_app = with_rule (with_rule (with_rule (with_rule bare_draft_app functions_rule) define_rule) undef_rule) texts_rule
+
 -- `serve`
 abbrev pub serve_app : App
 serve_app = new_app (codes "serve")
@@ -202,8 +221,9 @@ bare_app = let a = new_app (codes "fltstack") in
 abbrev pub program_app : App
 program_app =
     with_subcommand (with_subcommand (with_subcommand (with_subcommand (with_subcommand (with_subcommand (with_subcommand (with_subcommand
-    (with_subcommand (with_subcommand (with_subcommand bare_app check_app.top) analyse_app.top) thin_app.top) explain_app.top) run_app.top)
-    replay_app.top) extract_app.top) format_app.top) emit_app.top) compare_app.top) serve_app.top
+    (with_subcommand (with_subcommand (with_subcommand (with_subcommand bare_app check_app.top) analyse_app.top) thin_app.top)
+    explain_app.top) run_app.top) replay_app.top) extract_app.top) format_app.top) emit_app.top) compare_app.top) draft_app.top)
+    serve_app.top
 
 -- ---- what of it words need
 
@@ -224,4 +244,5 @@ app_for word =
     else (if bytes_eq word (codes "format") then program_with format_app
     else (if bytes_eq word (codes "emit") then program_with emit_app
     else (if bytes_eq word (codes "compare") then program_with compare_app
-    else (if bytes_eq word (codes "serve") then program_with serve_app else program_app))))))))))
+    else (if bytes_eq word (codes "draft") then program_with draft_app
+    else (if bytes_eq word (codes "serve") then program_with serve_app else program_app)))))))))))

@@ -1,7 +1,7 @@
 -- What the words of a command line ask for. This project's own program.
-use Rattle.std.specs.Char.{digit_value}
+use Rattle.std.specs.Char.{digit_value, is_ascii_alphabetic, is_ascii_alphanumeric}
 use Rattle.std.specs.List.{list_all, list_any}
-use Rattle.std.specs.Prelude.{ℕ, ◌≡◌, ◌&&◌, ◌||◌, List, [], ◌∷◌, Bool, true, false, Option, Some, None, codes}
+use Rattle.std.specs.Prelude.{ℕ, ◌≡◌, ◌&&◌, ◌||◌, ◌==◌, not, List, [], ◌∷◌, Bool, true, false, Option, Some, None, codes}
 use Rattle.std.specs.Prelude.{if◌then◌else◌, length, nat_lt, unwrap_or, option_and_then, option_map}
 use Rattle.std.specs.Option.{option_map_or}
 use Rattle.std.specs.Str.{bytes_eq}
@@ -24,7 +24,7 @@ use Rattle.flt_words.specs.declared.request.Colour.TheVariants.{Auto, Always, Ne
 use Rattle.flt_words.specs.declared.request.SearchChoice.{SearchChoice}
 use Rattle.flt_words.specs.Workers.{within}
 use Rattle.flt_words.specs.Request.{Asked, Choice, Check, Analyse, Thin, Run, Replay, Show, Explain}
-use Rattle.flt_words.specs.Request.{Extract, Format, Pages, Emit, EmitInto, Compare, Serve}
+use Rattle.flt_words.specs.Request.{Extract, Format, Pages, Emit, EmitInto, Compare, Functions, Serve}
 
 -- ---- values
 
@@ -141,6 +141,39 @@ written_by (Some name) = if bytes_eq name (codes "-") then None else Some (Some 
 abbrev pub written_of : Text → List Row → Option (Option Text)
 written_of id rows = written_by (first_of id rows)
 
+-- a name of C, of letters, digits and `_`
+abbrev pub begins_name : ℕ → Bool
+begins_name b = is_ascii_alphabetic b || b == 95
+
+abbrev pub is_name_byte : ℕ → Bool
+is_name_byte b = is_ascii_alphanumeric b || b == 95
+
+abbrev pub is_name : Text → Bool
+is_name [] = false
+is_name (b ∷ z) = begins_name b && list_all is_name_byte z
+
+-- what ends no line
+abbrev pub is_line_byte : ℕ → Bool
+is_line_byte b = not (b == 10)
+
+-- the rest of a name, and perhaps `=` and a value in one line
+abbrev pub is_rest : Text → Bool
+is_rest [] = true
+is_rest (b ∷ z) = if b == 61 then list_all is_line_byte z else is_name_byte b && is_rest z
+
+-- a definition of a macro: its name, and perhaps `=` and a value in one line
+abbrev pub is_definition : Text → Bool
+is_definition [] = false
+is_definition (b ∷ z) = begins_name b && is_rest z
+
+-- each `--define` has a definition
+abbrev pub has_definitions : List Row → Bool
+has_definitions rows = list_all is_definition (texts_of (codes "define") rows)
+
+-- each `--undef` has a name
+abbrev pub has_names : List Row → Bool
+has_names rows = list_all is_name (texts_of (codes "undef") rows)
+
 -- ---- commands
 
 abbrev pub check_of : List Row → Asked
@@ -246,6 +279,14 @@ emit_of rows = emit_by rows (first_of (codes "part") rows) (first_of (codes "int
 abbrev pub compare_of : List Row → Asked
 compare_of rows = Compare (files_of rows)
 
+abbrev pub functions_of : List Row → Asked
+functions_of rows = Functions (texts_of (codes "define") rows) (texts_of (codes "undef") rows) (files_of rows)
+
+-- without `--functions` nothing is asked for, nor is it where a macro is defined by no name or in several lines
+abbrev pub draft_of : List Row → Option Asked
+draft_of rows =
+    if is_set (codes "functions") rows && (has_definitions rows && has_names rows) then Some (functions_of rows) else None
+
 -- what a subcommand with its arguments asks for
 abbrev pub asked_by : Text × List Row → Option Asked
 asked_by (name, rows) =
@@ -259,7 +300,8 @@ asked_by (name, rows) =
     else (if bytes_eq name (codes "format") then format_of rows
     else (if bytes_eq name (codes "emit") then emit_of rows
     else (if bytes_eq name (codes "compare") then Some (compare_of rows)
-    else (if bytes_eq name (codes "serve") then Some Serve else None))))))))))
+    else (if bytes_eq name (codes "draft") then draft_of rows
+    else (if bytes_eq name (codes "serve") then Some Serve else None)))))))))))
 
 -- ---- all of it
 

@@ -293,6 +293,41 @@ fn force_argument<'a>(alloc: Global) -> Arg<'a>
         .help("Replace a source that is there, whoever wrote it")
 }
 
+/// The flag `--functions`.
+fn functions_argument<'a>(alloc: Global) -> Arg<'a>
+    ensures rule { rule_of result ≡ spec.functions_rule }
+    ensures own { result.global ≡ false }
+{
+    Arg::new(alloc, "functions")
+        .long("functions")
+        .action(ArgAction::SetTrue)
+        .help("Say of each function whether it can be read; `draft` does nothing else yet")
+}
+
+/// The option `--define`.
+fn define_argument<'a>(alloc: Global) -> Arg<'a>
+    ensures rule { rule_of result ≡ spec.define_rule }
+    ensures own { result.global ≡ false }
+{
+    Arg::new(alloc, "define")
+        .long("define")
+        .value_name("NAME[=VALUE]")
+        .action(ArgAction::Append)
+        .help("Define a macro before each FILE, as 1 without VALUE; it may be given several times")
+}
+
+/// The option `--undef`.
+fn undef_argument<'a>(alloc: Global) -> Arg<'a>
+    ensures rule { rule_of result ≡ spec.undef_rule }
+    ensures own { result.global ≡ false }
+{
+    Arg::new(alloc, "undef")
+        .long("undef")
+        .value_name("NAME")
+        .action(ArgAction::Append)
+        .help("Take a name for no macro at the beginning of each FILE, whatever `--define` says")
+}
+
 // ---- commands
 
 /// A command with one more argument, if memory sufficed for both.
@@ -533,6 +568,32 @@ fn compare_command<'a>(alloc: Global) -> Result<Command<'a>, AllocError>
     )
 }
 
+/// The command `draft` without its arguments.
+fn bare_draft<'a>(alloc: Global) -> Command<'a>
+    ensures { spec.IsCommand result spec.bare_draft_app }
+{
+    Command::new(alloc, "draft")
+        .about("Lists the functions and the tables of registrations that it can read in plain C")
+        .override_usage(
+            "fltstack draft --functions [--define <NAME[=VALUE]>]... [--undef <NAME>]... <FILE>...",
+        )
+        .after_help(
+            "Prints a line for each function of the C files: `read`, or where and why reading stops; for each table of\nregistrations its rows; and for each place that is not read, why (exit 0 if all is read, else 1). If\nnothing decides the condition of an `#if`, all its branches are read. Errors go to the standard error with exit 2.\n\nExample: fltstack draft --functions examples/c/ctx.c",
+        )
+}
+
+fn draft_command<'a>(alloc: Global) -> Result<Command<'a>, AllocError>
+    ensures { IfOk result (λ c. spec.IsCommand c spec.draft_app) }
+{
+    let command = with_argument(Ok(bare_draft(alloc)), functions_argument(alloc));
+    let command = with_argument(command, define_argument(alloc));
+    let command = with_argument(command, undef_argument(alloc));
+    with_argument(
+        command,
+        texts_argument(alloc, "The C files; `-` is the standard input"),
+    )
+}
+
 /// The command `serve`, which takes no arguments.
 fn bare_serve<'a>(alloc: Global) -> Command<'a>
     ensures { spec.IsCommand result spec.serve_app }
@@ -595,6 +656,7 @@ pub(crate) fn program<'a>(alloc: Global) -> Result<Command<'a>, AllocError>
     let program = with_command(program, format_command(alloc));
     let program = with_command(program, emit_command(alloc));
     let program = with_command(program, compare_command(alloc));
+    let program = with_command(program, draft_command(alloc));
     with_command(program, serve_command(alloc))
 }
 
@@ -627,6 +689,7 @@ pub(crate) fn program_for<'a>(alloc: Global, word: &str) -> Result<Command<'a>, 
         "format" => program_with(alloc, format_command(alloc)),
         "emit" => program_with(alloc, emit_command(alloc)),
         "compare" => program_with(alloc, compare_command(alloc)),
+        "draft" => program_with(alloc, draft_command(alloc)),
         "serve" => program_with(alloc, serve_command(alloc)),
         _ => program(alloc),
     }

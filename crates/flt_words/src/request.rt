@@ -163,6 +163,14 @@ pub enum Request<'a> {
     Compare {
         files: Vec<&'a str>,
     },
+    /// List the functions and tables of some C files.
+    Functions {
+        /// The macros that are defined before each file: NAME, or NAME=VALUE in one line.
+        defined: Vec<&'a str>,
+        /// The names that are no macros there.
+        undefined: Vec<&'a str>,
+        files: Vec<&'a str>,
+    },
 }
 
 impl<'a> Request<'a> {

@@ -73,6 +73,18 @@ const NO_FORCE: &str =
 const NO_FOLDER: &str =
     "error: `--into` takes the name of a folder\n\nUsage: fltstack emit [--part <PART>] <FILE> [CERT]\n       fltstack emit --into <FOLDER> [--force] <FILE> [CERT]\n\nFor more information, try '--help'.\n";
 
+/// The error if `draft` has no option that names its output.
+const NO_DRAFT: &str =
+    "error: `draft` takes `--functions`\n\nUsage: fltstack draft --functions [--define <NAME[=VALUE]>]... [--undef <NAME>]... <FILE>...\n\nFor more information, try '--help'.\n";
+
+/// The error if a macro is defined by another word than a name, or by several lines.
+const NO_DEFINITION: &str =
+    "error: `--define` takes NAME or NAME=VALUE in one line\n\nUsage: fltstack draft --functions [--define <NAME[=VALUE]>]... [--undef <NAME>]... <FILE>...\n\nFor more information, try '--help'.\n";
+
+/// The error if `--undef` has another word than a name.
+const NO_NAME: &str =
+    "error: `--undef` takes NAME\n\nUsage: fltstack draft --functions [--define <NAME[=VALUE]>]... [--undef <NAME>]... <FILE>...\n\nFor more information, try '--help'.\n";
+
 /// The error for malformed words if `clap` reports none for them.
 const NO_WORDS: &str = "error: these words can't be taken\n\nFor more information, try '--help'.\n";
 
@@ -310,6 +322,101 @@ fn written_of<'a>(matches: &ArgMatches<'a>, id: &str) -> Option<Option<&'a str>>
     ensures { option_map (λ file. option_map (λ name. name.now) file) result ≡ spec.written_of id.now (rows_of (found_of matches.now)) }
 {
     written_by(matches.get_str(id))
+}
+
+fn begins_name(byte: u8) -> bool
+    ensures { result ≡ spec.begins_name byte }
+{
+    byte.is_ascii_alphabetic() || byte == b'_'
+}
+
+fn is_name_byte(byte: u8) -> bool
+    ensures { result ≡ spec.is_name_byte byte }
+{
+    byte.is_ascii_alphanumeric() || byte == b'_'
+}
+
+fn are_name_bytes(bytes: &[u8]) -> bool
+    ensures { result ≡ list_all spec.is_name_byte bytes.now }
+{
+    bytes.iter().all(|byte| is_name_byte(*byte))
+}
+
+/// Whether a text is a name of C.
+fn is_name(text: &[u8]) -> bool
+    ensures { result ≡ spec.is_name text.now }
+{
+    match text {
+        [first, rest @ ..] => begins_name(*first) && are_name_bytes(rest),
+        [] => false,
+    }
+}
+
+fn is_line(bytes: &[u8]) -> bool
+    ensures { result ≡ list_all spec.is_line_byte bytes.now }
+{
+    bytes.iter().all(|byte| *byte != b'\n')
+}
+
+/// Whether bytes are the rest of a name, and perhaps `=` and a value in one line.
+fn is_rest(bytes: &[u8]) -> bool
+    ensures { result ≡ spec.is_rest bytes.now }
+{
+    let mut rest = bytes;
+    while let [byte, after @ ..] = rest {
+        if *byte == b'=' {
+            return is_line(after);
+        }
+        if !is_name_byte(*byte) {
+            return false;
+        }
+        rest = after;
+    }
+    true
+}
+
+/// Whether a text is NAME, or NAME=VALUE in one line.
+fn is_definition(text: &[u8]) -> bool
+    ensures { result ≡ spec.is_definition text.now }
+{
+    match text {
+        [first, rest @ ..] => begins_name(*first) && is_rest(rest),
+        [] => false,
+    }
+}
+
+/// Whether each of some texts defines a macro.
+fn are_definitions(texts: &[&str]) -> bool
+    ensures { result ≡ list_all (λ text. spec.is_definition text.now) texts.now }
+{
+    texts.iter().all(|text| is_definition(text.as_bytes()))
+}
+
+/// Whether each `--define` defines a macro.
+fn has_definitions(matches: &ArgMatches) -> bool
+    ensures { result ≡ spec.has_definitions (rows_of (found_of matches.now)) }
+{
+    match matches.get_strs("define") {
+        Some(texts) => are_definitions(texts),
+        None => true,
+    }
+}
+
+/// Whether each of some texts is a name of C.
+fn are_names(texts: &[&str]) -> bool
+    ensures { result ≡ list_all (λ text. spec.is_name text.now) texts.now }
+{
+    texts.iter().all(|text| is_name(text.as_bytes()))
+}
+
+/// Whether each `--undef` has a name.
+fn has_names(matches: &ArgMatches) -> bool
+    ensures { result ≡ spec.has_names (rows_of (found_of matches.now)) }
+{
+    match matches.get_strs("undef") {
+        Some(texts) => are_names(texts),
+        None => true,
+    }
 }
 
 // ---- commands
@@ -676,6 +783,33 @@ fn asked_compare<'a>(alloc: Global, compare: &ArgMatches<'a>) -> Result<Request<
     })
 }
 
+/// The request of `draft --functions`.
+fn listed_functions<'a>(alloc: Global, draft: &ArgMatches<'a>) -> Result<Request<'a>, AllocError>
+    ensures { IfOk result (λ r. asked_of r ≡ Some (spec.functions_of (rows_of (found_of draft.now)))) }
+{
+    Ok(Request::Functions {
+        defined: texts_of(alloc, draft, "define")?,
+        undefined: texts_of(alloc, draft, "undef")?,
+        files: files_of(alloc, draft)?,
+    })
+}
+
+/// The request of the matches of `draft`.
+fn asked_draft<'a>(alloc: Global, draft: &ArgMatches<'a>) -> Result<Request<'a>, AllocError>
+    ensures { IfOk result (λ r. asked_of r ≡ spec.draft_of (rows_of (found_of draft.now))) }
+{
+    if !is_set(draft, "functions") {
+        return Ok(Request::Usage(String::from_str(alloc, NO_DRAFT)?));
+    }
+    if !has_definitions(draft) {
+        return Ok(Request::Usage(String::from_str(alloc, NO_DEFINITION)?));
+    }
+    if !has_names(draft) {
+        return Ok(Request::Usage(String::from_str(alloc, NO_NAME)?));
+    }
+    listed_functions(alloc, draft)
+}
+
 /// The request of the matches of a command line.
 fn matched<'a>(alloc: Global, matches: &ArgMatches<'a>) -> Result<Request<'a>, AllocError>
     ensures { IfOk result (λ r. asked_of r ≡ option_and_then spec.asked_by (subcommand_rows_of matches.now)) }
@@ -709,6 +843,9 @@ fn matched<'a>(alloc: Global, matches: &ArgMatches<'a>) -> Result<Request<'a>, A
     }
     if let Some(compare) = matches.subcommand_matches("compare") {
         return asked_compare(alloc, compare);
+    }
+    if let Some(draft) = matches.subcommand_matches("draft") {
+        return asked_draft(alloc, draft);
     }
     match matches.subcommand_matches("serve") {
         Some(_) => Ok(Request::Serve),

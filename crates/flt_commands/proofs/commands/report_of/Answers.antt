@@ -1,7 +1,8 @@
 use Rattle.std.proofs.Common.{◌≡◌, ap, map, option_map, refl, sym}
 use Rattle.flt_commands.proofs.Reported.{answers_asked, answers_of, before_shown, cut_asked, held_asked, kept_shown, never_quiet}
 use Rattle.flt_commands.proofs.Reported.{quiet_asked, quiet_shown, remarked_after, says_of_pages, those_after, those_of}
-use Rattle.flt_words.specs.Request.{Check, Analyse, Thin, Run, Replay, Show, Extract, Pages, Emit, EmitInto, Compare, Serve, asked_of, choice_of}
+use Rattle.flt_words.specs.Request.{Check, Analyse, Thin, Run, Replay, Show, Extract, Pages, Emit, EmitInto, asked_of, choice_of}
+use Rattle.flt_words.specs.Request.{Compare, Functions, Serve}
 use Rattle.flt_files.specs.Attempts.{Does}
 use Rattle.flt_commands.proofs.Untouched.{by_emit, by_explain, by_format, by_show}
 use Rattle.flt_commands.proofs.commands.report_of.Goals as goal
@@ -229,6 +230,25 @@ returns-in-Compare-clause-answers g c =
     refl
     (those_of _ _ c.report_on-in-Compare.ensures.texts) c.report_on-in-Compare.ensures.codes c.report_on-in-Compare.ensures.reported
     (remarked_after request _ _ _ c.new-in-Compare.ensures.items c.report_on-in-Compare.ensures.remarked)
+
+pub returns-in-Functions-clause-answers : goal.returns-in-Functions-clause-answers
+returns-in-Functions-clause-answers g c =
+    let request = Functions (map (λ text. text.now) c.in-Functions.defined.items) (map (λ name. name.now) c.in-Functions.undefined.items)
+    (map (λ name. name.now) c.in-Functions.files.items) in
+    let does =
+    Does (c.args.pictures.now ≡ c.args.pictures.now) (g.P.Pictures.done c.args.pictures.now)
+    (g.P.Pictures.done c.args.pictures.now) in
+    answers_of c.covered_texts_break_nothing.ensures c.driven_texts_break_nothing.ensures
+    c.fails_exactly_where_nothing_is_spelled.ensures.nowhere _ _ _ does _ request _ _ _
+    (ap asked_of (sym c.in-Functions.is)) (
+      c.list_functions-said.result,
+      c.of_text-in-Functions.ensures,
+      rw (c.as_slice-in-Functions.ensures.value, c.as_slice-in-Functions-2.ensures.value, c.as_slice-in-Functions-3.ensures.value)
+          at c.list_functions-said.ensures,
+    )
+    refl
+    (those_of _ _ c.report_on-in-Functions.ensures.texts) c.report_on-in-Functions.ensures.codes c.report_on-in-Functions.ensures.reported
+    (remarked_after request _ _ _ c.new-in-Functions.ensures.items c.report_on-in-Functions.ensures.remarked)
 
 pub returns-in-Explain-clause-untouched : goal.returns-in-Explain-clause-untouched
 returns-in-Explain-clause-untouched g c =

@@ -12,4 +12,5 @@ returns c =
     let eight = c.with_command-program-8.ensures _ _ seven c.format_command.ensures in
     let nine = c.with_command-program-9.ensures _ _ eight c.emit_command.ensures in
     let ten = c.with_command-program-10.ensures _ _ nine c.compare_command.ensures in
-    c.with_command.ensures _ _ ten c.serve_command.ensures
+    let eleven = c.with_command-program-11.ensures _ _ ten c.draft_command.ensures in
+    c.with_command.ensures _ _ eleven c.serve_command.ensures

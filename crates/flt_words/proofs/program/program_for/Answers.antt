@@ -30,5 +30,8 @@ returns-in-emit c = rw c.in-emit.is (c.program_with-in-emit.ensures _ c.emit_com
 pub returns-in-compare : goal.returns-in-compare
 returns-in-compare c = rw c.in-compare.is (c.program_with-in-compare.ensures _ c.compare_command.ensures)
 
+pub returns-in-draft : goal.returns-in-draft
+returns-in-draft c = rw c.in-draft.is (c.program_with-in-draft.ensures _ c.draft_command.ensures)
+
 pub returns-in-serve : goal.returns-in-serve
 returns-in-serve c = rw c.in-serve.is (c.program_with-in-serve.ensures _ c.serve_command.ensures)
