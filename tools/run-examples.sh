@@ -298,9 +298,9 @@ done
 
 # The words and the answers' files of each line.
 sed -n 's/^\([^#].*\) = [012] @\{0,1\}\(.*\)/ \1 \2 /p' expected >"$works/named"
-for file in * c/* samples/*; do
+for file in * c/* c/drivers/* samples/*; do
     case $file in
-    README.md | expected | verdicts | cases | serve | c | c/kit.h | samples/*.c) ;;
+    README.md | expected | verdicts | cases | serve | c | c/kit.h | c/drivers | c/drivers/fltKernel.h | samples/*.c) ;;
     *) grep -qF " $file " "$works/named" || differs "$file: no line of expected has it" ;;
     esac
 done
