@@ -11,7 +11,7 @@ use Rattle.flt_c_syntax.specs.Statement.{skipped, group, up_to_semicolon, specif
 use Rattle.flt_c_syntax.specs.Statement.{first_value, next_declarator, declaration, tested, optional, first, last, expressed, arguments}
 use Rattle.flt_c_syntax.specs.Statement.{case, else_if, otherwise, choice, counting, repetition, handler_by, guarded, else_branch}
 use Rattle.flt_c_syntax.specs.Statement.{directed, named, statement_by, statement, next_statement, body, nested_as, nested, max_depth}
-use Rattle.flt_c_syntax.specs.Statement.{function_body, end, function_pointer, plainly_declared}
+use Rattle.flt_c_syntax.specs.Statement.{function_body, end, function_pointer, plainly_declared, plain_statement_by, plain_named}
 use Rattle.flt_c_syntax.specs.StatementGrammar as g
 use Rattle.flt_c_syntax.specs.StatementGrammar.{GroupAt, ends_specifiers_by, SpecifierAt, SpecifiersAt, BoundsAt, FormAt, DeclaredAt}
 use Rattle.flt_c_syntax.specs.StatementGrammar.{FirstValueAt, DeclaratorsAt, DeclarationAt, TestedAt, OptionalAt, FirstAt}
@@ -167,7 +167,7 @@ module _ (known : List Class) (d : ℕ) where
 declares_at : (known : List Class) (d : ℕ) (inner : Nest → Parser (List Statement)) (i : Input) (kd : Kind) → begins_name_label i ≡ false →
     begins_leave i ≡ false → begins_declaration i ≡ true → kind i ≡ kd →
     statement_by known d inner (place i) kd i ≡ declaration known d (place i) i
-unfolding named begins_declaration
+unfolding plain_statement_by named plain_named begins_declaration
 declares_at known d inner i k.Name a b c e = rw (a, b, c) refl
 declares_at known d inner i k.TypeWord a b c e = refl
 declares_at known d inner i k.Qualifier a b c e = refl
@@ -176,6 +176,7 @@ declares_at known d inner i kd a b c e = elim (differ (ap (λ x. begins_declarat
 
 expresses_at : (known : List Class) (d : ℕ) (inner : Nest → Parser (List Statement)) (i : Input) (kd : Kind) → begins_expression kd ≡ true →
     statement_by known d inner (place i) kd i ≡ expressed known d (place i) i
+unfolding plain_statement_by
 expresses_at known d inner i k.Name e = elim (differ e) [ ]
 expresses_at known d inner i k.Semicolon e = elim (differ e) [ ]
 expresses_at known d inner i k.OpenBrace e = elim (differ e) [ ]
@@ -241,7 +242,7 @@ module _ (known : List Class) (d : ℕ)
   expressed_again p n = then_again _ (inside known d p) (then_again _ (expect_again n) refl)
 
   statement_again : {i o : Input} {s : Statement} → StatementAt known d i s o → statement known d (nested known d) i ≡ Ok (s, o)
-  unfolding named choice counting repetition case guarded directed
+  unfolding plain_statement_by named plain_named choice counting repetition case guarded directed
   statement_again {i = i} (g.empty n) = at_next n ∙ ap (λ x. Ok (made.Empty (place i), x)) (rest_is n)
   statement_again {i = i} (g.block_statement e p) = at_kind k.OpenBrace i e ∙ then_again _ (nested_inside p) refl
   statement_again {i = i} (g.label e p n) =

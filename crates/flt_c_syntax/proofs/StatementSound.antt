@@ -12,6 +12,7 @@ use Rattle.flt_c_syntax.specs.Statement.{skipped, group, up_to_semicolon, specif
 use Rattle.flt_c_syntax.specs.Statement.{declared, first_value, declarator, next_declarator, declaration, tested, optional}
 use Rattle.flt_c_syntax.specs.Statement.{first, last, expressed, arguments, case, else_if, otherwise, choice, counting, repetition}
 use Rattle.flt_c_syntax.specs.Statement.{handler_by, guarded, else_branch, directed, named, statement_by, statement, next_statement, body}
+use Rattle.flt_c_syntax.specs.Statement.{plain_statement_by, plain_named}
 use Rattle.flt_c_syntax.specs.Statement.{nested_as, nested, max_depth, function_body, end, function_pointer, plainly_declared}
 use Rattle.flt_c_syntax.specs.StatementGrammar as g
 use Rattle.flt_c_syntax.specs.StatementGrammar.{GroupAt, ends_specifiers_by, SpecifiersAt, BoundsAt, FormAt, DeclaredAt}
@@ -287,10 +288,11 @@ module _ (known : List Class) (d : ℕ) (inner : (n : Nest) (i : Input) → Give
   named_by : (i : Input) (a b c f m : Bool) → kind i ≡ k.Name → begins_name_label i ≡ a → begins_leave i ≡ b → begins_declaration i ≡ c →
       is_macro_loop i ≡ f → is_macro i ≡ m →
       Gives (StatementAt known d i)
-      (if a then (word k.Name >>= (λ w. expect k.Colon >> pure (made.Label (place i) w))) i
+      (if not a && not b && not c && f
+      then (word k.Name >>= (λ w. arguments known d >>= (λ es. made.Loop (place i) w es <$> nested known d nests.Body))) i
+      else (if a then (word k.Name >>= (λ w. expect k.Colon >> pure (made.Label (place i) w))) i
       else (if b then (take_token >> (expect k.Semicolon >> pure (made.Leave (place i)))) i
       else (if c then declaration known d (place i) i
-      else (if f then (word k.Name >>= (λ w. arguments known d >>= (λ es. made.Loop (place i) w es <$> nested known d nests.Body))) i
       else (if m then (word k.Name >>= (λ w. arguments known d >>= (λ es. pure (made.Macro (place i) w es)))) i
       else expressed known d (place i) i)))))
   unfolding same_kind
@@ -312,7 +314,7 @@ module _ (known : List Class) (d : ℕ) (inner : (n : Nest) (i : Input) → Give
 
   statement_by_gives : (i : Input) (kd : Kind) → kind i ≡ kd →
       Gives (StatementAt known d i) (statement_by known d (nested known d) (place i) kd i)
-  unfolding named choice counting repetition case guarded directed same_kind
+  unfolding plain_statement_by named plain_named choice counting repetition case guarded directed same_kind
   statement_by_gives i k.Name e =
       named_by i (begins_name_label i) (begins_leave i) (begins_declaration i) (is_macro_loop i) (is_macro i) e refl refl refl refl refl
   statement_by_gives i k.Semicolon e = gives (g.empty (took i k.Semicolon refl e))

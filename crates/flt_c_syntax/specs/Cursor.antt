@@ -87,6 +87,14 @@ word k = λ i. if sees k i then Ok ((front i).word, next i) else refuse i
 unfoldable pub separator : Kind → Parser (Unit {0})
 separator close = λ i. if sees k.Comma i then Ok (tt, next i) else (if sees close i then Ok (tt, i) else refuse i)
 
+-- what was read, if a token of the kind ends it
+abbrev pub ended_by : {A : Type 0} → Kind → A → Parser A
+ended_by k x = expect k >> pure x
+
+-- what was read, if a comma or the closing bracket follows
+abbrev pub separated : {A : Type 0} → Kind → A → Parser (Option A)
+separated close x = separator close >> pure (Some x)
+
 -- ---- repetition
 
 module _ {A : Type 0} (step : Parser (Option A)) where
@@ -111,3 +119,7 @@ abbrev pub Reads : {A : Type 0} → Outcome A → Result A ReadError → Input �
 Reads outcome (Ok a) new = outcome ≡ Ok (a, new)
 Reads outcome (Err OutOfMemory) new = Unit {0}
 Reads outcome (Err (Syntax f)) new = outcome ≡ Err f
+
+-- it gives the value, unless memory runs out
+abbrev pub Makes : {A : Type 0} → A → Result A ReadError → Type 0
+Makes x result = (i : Input) → Reads (Ok (x, i)) result i

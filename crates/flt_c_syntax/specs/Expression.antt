@@ -56,6 +56,24 @@ prefix known = λ i. if begins_prefix known i then (Some <$> (peek >>= prefix_by
 unfoldable pub measured : Place → Parser Expression
 measured at = do expect k.OpenParen; t ← type_name; expect k.CloseParen; pure (made.SizeOf at t)
 
+-- ---- operands and what stands behind them, with no expression inside
+
+abbrev pub plain_suffix_by : Kind → Parser (Option Suffix)
+plain_suffix_by k.Dot = take_token >> (λ w. Some (suffixes.Member w)) <$> word k.Name
+plain_suffix_by k.Arrow = take_token >> (λ w. Some (suffixes.Arrow w)) <$> word k.Name
+plain_suffix_by k.DoubleColon = take_token >> (λ w. Some (suffixes.Scope w)) <$> word k.Name
+plain_suffix_by k.Increment = take_token >> pure (Some suffixes.Increment)
+plain_suffix_by k.Decrement = take_token >> pure (Some suffixes.Decrement)
+plain_suffix_by _ = pure None
+
+abbrev pub plain_primary_by : Place → Kind → Parser Expression
+plain_primary_by at k.Name = made.Name at <$> word k.Name
+plain_primary_by at k.Number = made.Number at <$> word k.Number
+plain_primary_by at k.Character = made.Character at <$> word k.Character
+plain_primary_by at k.Sizeof = take_token >> measured at
+plain_primary_by at k.OpenBracket = fail reasons.Lambda
+plain_primary_by at _ = refuse
+
 -- ---- expressions; `inner` reads those inside brackets
 
 module _ (known : List Class) (inner : Role → Parser Expression) where
@@ -91,12 +109,7 @@ module _ (known : List Class) (inner : Role → Parser Expression) where
   abbrev pub suffix_by : Kind → Parser (Option Suffix)
   suffix_by k.OpenParen = do take_token; es ← many next_argument; expect k.CloseParen; pure (Some (suffixes.Call es))
   suffix_by k.OpenBracket = do take_token; e ← inner roles.Whole; expect k.CloseBracket; pure (Some (suffixes.Index e))
-  suffix_by k.Dot = take_token >> (λ w. Some (suffixes.Member w)) <$> word k.Name
-  suffix_by k.Arrow = take_token >> (λ w. Some (suffixes.Arrow w)) <$> word k.Name
-  suffix_by k.DoubleColon = take_token >> (λ w. Some (suffixes.Scope w)) <$> word k.Name
-  suffix_by k.Increment = take_token >> pure (Some suffixes.Increment)
-  suffix_by k.Decrement = take_token >> pure (Some suffixes.Decrement)
-  suffix_by _ = pure None
+  suffix_by kind = plain_suffix_by kind
 
   unfoldable pub suffix : Parser (Option Suffix)
   suffix = peek >>= suffix_by
@@ -120,14 +133,9 @@ module _ (known : List Class) (inner : Role → Parser Expression) where
     pure (made.Prefixed at (prefixes.Cast t ∷ []) e)
 
   abbrev pub primary_by : Place → Kind → Parser Expression
-  primary_by at k.Name = made.Name at <$> word k.Name
-  primary_by at k.Number = made.Number at <$> word k.Number
-  primary_by at k.Character = made.Character at <$> word k.Character
   primary_by at k.OpenParen = take_token >> bracketed at
   primary_by at k.Cast = take_token >> named_cast at
-  primary_by at k.Sizeof = take_token >> measured at
-  primary_by at k.OpenBracket = fail reasons.Lambda
-  primary_by at _ = refuse
+  primary_by at kind = plain_primary_by at kind
 
   -- an operand without what stands before and behind it
   unfoldable pub primary : Parser Expression

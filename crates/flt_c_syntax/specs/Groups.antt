@@ -1,5 +1,5 @@
 -- Groups in brackets that are not looked at, and what declarations and labels begin with.
-use Rattle.std.specs.Prelude.{ℕ, suc, Bool, true, false, ◌&&◌, ◌||◌, ◌==◌, ◌-◌, if◌then◌else◌, nat_lt, [], ◌∷◌, Option, Some, None}
+use Rattle.std.specs.Prelude.{ℕ, suc, Bool, true, false, not, ◌&&◌, ◌||◌, ◌==◌, ◌-◌, if◌then◌else◌, nat_lt, [], ◌∷◌, Option, Some, None}
 use Rattle.flt_c_tokens.specs.Vocabulary.{leave}
 use Rattle.flt_c_tokens.specs.declared.token.Kind.{Kind}
 use Rattle.flt_c_tokens.specs.declared.token.Kind.TheVariants as k
@@ -148,6 +148,10 @@ is_block_behind (Some j) = sees k.OpenBrace j
 -- `NAME (..) {`
 unfoldable pub is_macro_loop : Input → Bool
 is_macro_loop i = is_block_behind (behind_call i)
+
+-- `NAME (..) {`, if it is no label, no jump and no declaration
+abbrev pub begins_loop : Input → Bool
+begins_loop i = not (begins_name_label i) && not (begins_leave i) && not (begins_declaration i) && is_macro_loop i
 
 -- ---- lists of statements
 

@@ -6,7 +6,7 @@ use Rattle.flt_c_syntax.specs.Cursor.{Parser, ◌>>=◌, ◌>>◌, pure, ◌<$>�
 use Rattle.flt_c_syntax.specs.Cursor.{separator, many}
 use Rattle.flt_c_syntax.specs.Expression.{expression, next_argument}
 use Rattle.flt_c_syntax.specs.Groups.{behind_group, behind_semicolon, follows_specifier, begins_declaration, begins_name_label}
-use Rattle.flt_c_syntax.specs.Groups.{begins_leave, is_macro, is_macro_loop, ends_list, begins_label_by}
+use Rattle.flt_c_syntax.specs.Groups.{begins_leave, is_macro, begins_loop, ends_list, begins_label_by}
 use Rattle.flt_c_syntax.specs.Tokens.{Input, kind, place, next, sees, run, behind}
 use Rattle.flt_c_syntax.specs.Types.{stars}
 use Rattle.flt_c_syntax.specs.declared.class.Class.{Class}
@@ -103,8 +103,27 @@ declared = do
   is_pointer ← eat k.OpenParen
   if is_pointer then function_pointer else plainly_declared n
 
+-- ---- statements of few tokens
+
+-- a jump
+abbrev pub jump_by : Place → Kind → Parser Statement
+jump_by at k.Goto = do take_token; w ← word k.Name; expect k.Semicolon; pure (made.Goto at w)
+jump_by at k.Break = take_token >> expect k.Semicolon >> pure (made.Break at)
+jump_by at k.Continue = take_token >> expect k.Semicolon >> pure (made.Continue at)
+jump_by at _ = take_token >> expect k.Semicolon >> pure (made.Leave at)
+
+-- a `typedef` or an attribute
+abbrev pub skipped_by : Place → Kind → Parser Statement
+skipped_by at k.Typedef = up_to_semicolon >> pure (made.Typedef at)
+skipped_by at _ = do w ← word k.Attribute; group; pure (made.Attribute at w)
+
 abbrev pub branch : Expression → List Statement → Branch
 branch e ss = branches.If e ss
+
+-- what goes by a test: a loop, or the cases of a value
+abbrev pub conditional_of : Place → Kind → Expression → List Statement → Statement
+conditional_of at k.While e ss = made.While at e ss
+conditional_of at _ e ss = made.Switch at e ss
 
 -- ---- declarations, and parts of statements with expressions, in which brackets may nest so deep
 
@@ -173,6 +192,32 @@ module _ (known : List Class) (depth : ℕ) where
     l ← last
     expect k.Colon
     pure (made.Case at e l)
+
+  -- what begins with no name and has no statement in it
+  unfoldable pub plain_statement_by : Place → Kind → Parser Statement
+  plain_statement_by at k.Semicolon = take_token >> pure (made.Empty at)
+  plain_statement_by at k.Case = take_token >> case at
+  plain_statement_by at k.Default = take_token >> expect k.Colon >> pure (made.Default at)
+  plain_statement_by at k.Return = take_token >> made.Return at <$> optional k.Semicolon
+  plain_statement_by at k.Goto = jump_by at k.Goto
+  plain_statement_by at k.Break = jump_by at k.Break
+  plain_statement_by at k.Continue = jump_by at k.Continue
+  plain_statement_by at k.Leave = jump_by at k.Leave
+  plain_statement_by at k.Typedef = skipped_by at k.Typedef
+  plain_statement_by at k.Attribute = skipped_by at k.Attribute
+  plain_statement_by at k.TypeWord = declaration at
+  plain_statement_by at k.Qualifier = declaration at
+  plain_statement_by at k.Struct = declaration at
+  plain_statement_by at _ = expressed at
+
+  -- what begins with a name and has no statement in it
+  unfoldable pub plain_named : Place → Parser Statement
+  plain_named at = λ i.
+      if begins_name_label i then (do w ← word k.Name; expect k.Colon; pure (made.Label at w)) i
+      else (if begins_leave i then (do take_token; expect k.Semicolon; pure (made.Leave at)) i
+      else (if begins_declaration i then declaration at i
+      else (if is_macro i then (do w ← word k.Name; es ← arguments; pure (made.Macro at w es)) i
+      else expressed at i)))
 
 -- ---- statements; `inner` reads those that are nested in them
 
@@ -248,37 +293,24 @@ module _ (known : List Class) (depth : ℕ) (inner : Nest → Parser (List State
   -- what begins with a name
   unfoldable pub named : Place → Parser Statement
   named at = λ i.
-      if begins_name_label i then (do w ← word k.Name; expect k.Colon; pure (made.Label at w)) i
-      else (if begins_leave i then (do take_token; expect k.Semicolon; pure (made.Leave at)) i
-      else (if begins_declaration i then declaration known depth at i
-      else (if is_macro_loop i then (do w ← word k.Name; es ← arguments known depth; made.Loop at w es <$> inner nests.Body) i
-      else (if is_macro i then (do w ← word k.Name; es ← arguments known depth; pure (made.Macro at w es)) i
-      else expressed known depth at i))))
+      if begins_loop i then (do w ← word k.Name; es ← arguments known depth; made.Loop at w es <$> inner nests.Body) i
+      else plain_named known depth at i
+
+  -- "while" or "switch" "(" expr ")" body
+  abbrev pub conditional_by : Place → Kind → Parser Statement
+  conditional_by at kind = do take_token; e ← tested known depth; conditional_of at kind e <$> inner nests.Body
 
   abbrev pub statement_by : Place → Kind → Parser Statement
   statement_by at k.Name = named at
-  statement_by at k.Semicolon = take_token >> pure (made.Empty at)
   statement_by at k.OpenBrace = made.Block at <$> inner nests.Body
   statement_by at k.If = take_token >> choice at
-  statement_by at k.While = do take_token; e ← tested known depth; made.While at e <$> inner nests.Body
+  statement_by at k.While = conditional_by at k.While
+  statement_by at k.Switch = conditional_by at k.Switch
   statement_by at k.Do = take_token >> repetition at
   statement_by at k.For = take_token >> counting at
-  statement_by at k.Switch = do take_token; e ← tested known depth; made.Switch at e <$> inner nests.Body
-  statement_by at k.Case = take_token >> case known depth at
-  statement_by at k.Default = take_token >> expect k.Colon >> pure (made.Default at)
-  statement_by at k.Goto = do take_token; w ← word k.Name; expect k.Semicolon; pure (made.Goto at w)
-  statement_by at k.Return = take_token >> made.Return at <$> optional known depth k.Semicolon
-  statement_by at k.Break = take_token >> expect k.Semicolon >> pure (made.Break at)
-  statement_by at k.Continue = take_token >> expect k.Semicolon >> pure (made.Continue at)
-  statement_by at k.Leave = take_token >> expect k.Semicolon >> pure (made.Leave at)
   statement_by at k.Try = take_token >> guarded at
-  statement_by at k.Typedef = up_to_semicolon >> pure (made.Typedef at)
-  statement_by at k.Attribute = do w ← word k.Attribute; group; pure (made.Attribute at w)
   statement_by at k.GroupIf = directed at
-  statement_by at k.TypeWord = declaration known depth at
-  statement_by at k.Qualifier = declaration known depth at
-  statement_by at k.Struct = declaration known depth at
-  statement_by at _ = expressed known depth at
+  statement_by at kind = plain_statement_by known depth at kind
 
   unfoldable pub statement : Parser Statement
   statement = λ i. statement_by (place i) (kind i) i

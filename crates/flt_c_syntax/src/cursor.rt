@@ -137,6 +137,22 @@ impl<'a> Tokens<'a> {
             Err(self.refuse())
         }
     }
+
+    /// The value that was read, if a token of the kind ends it. That is taken.
+    pub fn ended_by<T: Drop>(&mut self, kind: Kind, found: T) -> Result<T, ReadError>
+        ensures { Reads (spec.ended_by kind found self.old.rest.now) result self.new.rest.now }
+    {
+        self.expect(kind)?;
+        Ok(found)
+    }
+
+    /// The value that was read, if a comma or the closing bracket follows. A comma is taken.
+    pub fn separated<T: Drop>(&mut self, close: Kind, found: T) -> Result<Option<T>, ReadError>
+        ensures { Reads (spec.separated close found self.old.rest.now) result self.new.rest.now }
+    {
+        self.separator(close)?;
+        Ok(Some(found))
+    }
 }
 
 /// The first token, or an end past the last one.

@@ -19,23 +19,23 @@ use flt_c_tokens::Kind;
 use sqlite_items::{Boxed, Items};
 use std::alloc::Global;
 
-#[tactic(auto, unfolding(crate::specs::Statement::specifier))]
+#[tactic(auto, unfolding(crate::specs::Statement::specifier, crate::specs::Cursor::word, crate::specs::Tokens::same_kind))]
 fn specifier(tokens: &mut Tokens<'_>) -> Result<Option<Specifier>, ReadError>
     ensures { Reads (spec.specifier tokens.old.rest.now) result tokens.new.rest.now }
 {
     match tokens.peek() {
-        Kind::TypeWord => Ok(Some(Specifier::Word(tokens.word(Kind::TypeWord)?))),
-        Kind::Qualifier => Ok(Some(Specifier::Word(tokens.word(Kind::Qualifier)?))),
-        Kind::Struct => Ok(Some(Specifier::Word(tokens.word(Kind::Struct)?))),
+        Kind::TypeWord | Kind::Qualifier | Kind::Struct => {
+            Ok(Some(Specifier::Word(tokens.take())))
+        }
         Kind::Name => {
             if follows_specifier(front(next(tokens.rest)).kind) {
-                Ok(Some(Specifier::Word(tokens.word(Kind::Name)?)))
+                Ok(Some(Specifier::Word(tokens.take())))
             } else {
                 Ok(None)
             }
         }
         Kind::Attribute => {
-            let word = tokens.word(Kind::Attribute)?;
+            let word = tokens.take();
             group(tokens)?;
             Ok(Some(Specifier::Attribute(word)))
         }
@@ -170,14 +170,14 @@ fn next_declarator(
     }
     let (place, (stars, (name, form))) = declared(tokens)?;
     let value = first_value(alloc, known, tokens, depth)?;
-    tokens.separator(Kind::Semicolon)?;
-    Ok(Some(Declarator {
+    let found = Declarator {
         place,
         name,
         stars,
         form,
         value,
-    }))
+    };
+    tokens.separated(Kind::Semicolon, found)
 }
 
 #[tactic(auto, using(crate::proofs::Turns::turn_left, crate::proofs::Turns::none_left), unfolding(crate::specs::Cursor::many, crate::specs::Cursor::many_from))]
@@ -212,6 +212,5 @@ pub fn declaration(
 {
     let words = specifiers(alloc, tokens)?;
     let found = declarators(alloc, known, tokens, depth)?;
-    tokens.expect(Kind::Semicolon)?;
-    Ok(Statement::Declaration(at, words, found))
+    tokens.ended_by(Kind::Semicolon, Statement::Declaration(at, words, found))
 }

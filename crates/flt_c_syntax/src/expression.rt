@@ -1,7 +1,7 @@
 //! Reads expressions. Nothing nests but brackets: prefixes, suffixes and operators of one level are lists.
 
 ghost use Rattle.flt_c_syntax.specs.Cursor as base;
-ghost use Rattle.flt_c_syntax.specs.Cursor.{Reads};
+ghost use Rattle.flt_c_syntax.specs.Cursor.{Reads, Makes};
 ghost use Rattle.flt_c_syntax.specs.Expression as spec;
 ghost use Rattle.flt_c_syntax.specs.Made as made;
 ghost use Rattle.flt_c_syntax.specs.Operators as operators;
@@ -19,6 +19,12 @@ use crate::types::{begins_prefix, begins_text, is_literal, is_type_argument, tex
 use flt_c_tokens::Kind;
 use sqlite_items::{Boxed, Items};
 use std::alloc::{AllocError, Global};
+
+fn boxed(alloc: Global, expression: Expression) -> Result<Boxed<Expression>, ReadError>
+    ensures { Makes expression result }
+{
+    Ok(Boxed::new(alloc, expression)?)
+}
 
 fn prefixed(
     alloc: Global,
@@ -50,18 +56,33 @@ fn suffixed(
     }
 }
 
+/// An operand with its signs before it and its suffixes after it.
+fn affixed(
+    alloc: Global,
+    at: Place,
+    before: Items<Prefix>,
+    from: Place,
+    operand: Boxed<Expression>,
+    behind: Items<Suffix>,
+) -> Result<Boxed<Expression>, ReadError>
+    ensures { Makes (made.prefixed at before (made.suffixed from operand behind)) result }
+{
+    let operand = suffixed(alloc, from, operand, behind)?;
+    Ok(prefixed(alloc, at, before, operand)?)
+}
+
 fn linked(
     alloc: Global,
     at: Place,
     operand: Boxed<Expression>,
     links: Items<Link>,
-) -> Result<Boxed<Expression>, AllocError>
-    ensures { IfOk result (λ e. e ≡ made.linked at operand links) }
+) -> Result<Boxed<Expression>, ReadError>
+    ensures { Makes (made.linked at operand links) result }
 {
     if links.is_empty() {
         Ok(operand)
     } else {
-        Boxed::new(alloc, Expression::Linked(at, operand, links))
+        boxed(alloc, Expression::Linked(at, operand, links))
     }
 }
 
@@ -73,8 +94,7 @@ fn prefix_here(alloc: Global, tokens: &mut Tokens<'_>) -> Result<Prefix, ReadErr
         Kind::OpenParen => {
             tokens.take();
             let name = type_name(alloc, tokens)?;
-            tokens.expect(Kind::CloseParen)?;
-            Ok(Prefix::Cast(name))
+            tokens.ended_by(Kind::CloseParen, Prefix::Cast(name))
         }
         Kind::Sizeof => {
             tokens.take();
@@ -135,7 +155,7 @@ fn measured(
     tokens.expect(Kind::OpenParen)?;
     let name = type_name(alloc, tokens)?;
     tokens.expect(Kind::CloseParen)?;
-    Ok(Boxed::new(alloc, Expression::SizeOf(at, name))?)
+    boxed(alloc, Expression::SizeOf(at, name))
 }
 
 #[tactic(auto, unfolding(crate::specs::Expression::designator))]
@@ -156,8 +176,7 @@ fn designator(
         Kind::OpenBracket => {
             tokens.take();
             let index = expression(alloc, known, tokens, depth, Role::Whole)?;
-            tokens.expect(Kind::CloseBracket)?;
-            Ok(Some(Designator::Index(index)))
+            tokens.ended_by(Kind::CloseBracket, Some(Designator::Index(index)))
         }
         _ => Ok(None),
     }
@@ -218,8 +237,7 @@ fn next_initialiser(
         return Ok(None);
     }
     let found = initialiser(alloc, known, tokens, depth)?;
-    tokens.separator(Kind::CloseBrace)?;
-    Ok(Some(found))
+    tokens.separated(Kind::CloseBrace, found)
 }
 
 #[tactic(auto, using(crate::proofs::Turns::turn_left, crate::proofs::Turns::none_left), unfolding(crate::specs::Cursor::many, crate::specs::Cursor::many_from))]
@@ -255,8 +273,7 @@ fn braces(
 {
     tokens.expect(Kind::OpenBrace)?;
     let found = initialisers(alloc, known, tokens, depth)?;
-    tokens.expect(Kind::CloseBrace)?;
-    Ok(found)
+    tokens.ended_by(Kind::CloseBrace, found)
 }
 
 /// An argument with the comma after it, if another one is here.
@@ -274,8 +291,7 @@ fn next_argument(
         return Ok(None);
     }
     let found = expression(alloc, known, tokens, depth, Role::Argument)?;
-    tokens.separator(Kind::CloseParen)?;
-    Ok(Some(found))
+    tokens.separated(Kind::CloseParen, found)
 }
 
 #[tactic(auto, using(crate::proofs::Turns::turn_left, crate::proofs::Turns::none_left), unfolding(crate::specs::Cursor::many, crate::specs::Cursor::many_from))]
@@ -299,29 +315,11 @@ pub fn arguments(
     Err(tokens.refuse())
 }
 
-#[tactic(auto, unfolding(crate::specs::Expression::suffix))]
-#[cycle(expression)]
-fn suffix(
-    alloc: Global,
-    known: &[Class],
-    tokens: &mut Tokens<'_>,
-    depth: usize,
-) -> Result<Option<Suffix>, ReadError>
-    ensures { Reads (spec.suffix known.now (spec.expression known.now depth) tokens.old.rest.now) result tokens.new.rest.now }
+/// A suffix with no expression in it, if one is here.
+fn plain_suffix(tokens: &mut Tokens<'_>) -> Result<Option<Suffix>, ReadError>
+    ensures { Reads (spec.plain_suffix_by (left.kind tokens.old.rest.now) tokens.old.rest.now) result tokens.new.rest.now }
 {
     match tokens.peek() {
-        Kind::OpenParen => {
-            tokens.take();
-            let found = arguments(alloc, known, tokens, depth)?;
-            tokens.expect(Kind::CloseParen)?;
-            Ok(Some(Suffix::Call(found)))
-        }
-        Kind::OpenBracket => {
-            tokens.take();
-            let index = expression(alloc, known, tokens, depth, Role::Whole)?;
-            tokens.expect(Kind::CloseBracket)?;
-            Ok(Some(Suffix::Index(index)))
-        }
         Kind::Dot => {
             tokens.take();
             Ok(Some(Suffix::Member(tokens.word(Kind::Name)?)))
@@ -343,6 +341,31 @@ fn suffix(
             Ok(Some(Suffix::Decrement))
         }
         _ => Ok(None),
+    }
+}
+
+#[tactic(auto, unfolding(crate::specs::Expression::suffix))]
+#[cycle(expression)]
+fn suffix(
+    alloc: Global,
+    known: &[Class],
+    tokens: &mut Tokens<'_>,
+    depth: usize,
+) -> Result<Option<Suffix>, ReadError>
+    ensures { Reads (spec.suffix known.now (spec.expression known.now depth) tokens.old.rest.now) result tokens.new.rest.now }
+{
+    match tokens.peek() {
+        Kind::OpenParen => {
+            tokens.take();
+            let found = arguments(alloc, known, tokens, depth)?;
+            tokens.ended_by(Kind::CloseParen, Some(Suffix::Call(found)))
+        }
+        Kind::OpenBracket => {
+            tokens.take();
+            let index = expression(alloc, known, tokens, depth, Role::Whole)?;
+            tokens.ended_by(Kind::CloseBracket, Some(Suffix::Index(index)))
+        }
+        _ => plain_suffix(tokens),
     }
 }
 
@@ -382,22 +405,26 @@ fn bracketed(
         let name = type_name(alloc, tokens)?;
         tokens.expect(Kind::CloseParen)?;
         let found = braces(alloc, known, tokens, depth)?;
-        return Ok(Boxed::new(alloc, Expression::Compound(at, name, found))?);
+        return boxed(alloc, Expression::Compound(at, name, found));
     }
     if tokens.sees(Kind::OpenBrace) {
         return Err(tokens.fault(Reason::StatementExpression));
     }
     let inside = expression(alloc, known, tokens, depth, Role::Whole)?;
-    tokens.expect(Kind::CloseParen)?;
-    Ok(inside)
+    tokens.ended_by(Kind::CloseParen, inside)
 }
 
-fn one_cast(alloc: Global, name: TypeName) -> Result<Items<Prefix>, AllocError>
-    ensures { IfOk result (λ ps. ps ≡ Prefix.Cast name ∷ []) }
+fn cast(
+    alloc: Global,
+    at: Place,
+    name: TypeName,
+    operand: Boxed<Expression>,
+) -> Result<Boxed<Expression>, ReadError>
+    ensures { Makes (Expression.Prefixed at (Prefix.Cast name ∷ []) operand) result }
 {
     let mut found = Items::new(alloc);
     found.push(Prefix::Cast(name))?;
-    Ok(found)
+    Ok(Boxed::new(alloc, Expression::Prefixed(at, found, operand))?)
 }
 
 /// After the word of a cast of C++.
@@ -418,8 +445,29 @@ fn named_cast(
     tokens.expect(Kind::OpenParen)?;
     let operand = expression(alloc, known, tokens, depth, Role::Whole)?;
     tokens.expect(Kind::CloseParen)?;
-    let cast = one_cast(alloc, name)?;
-    Ok(Boxed::new(alloc, Expression::Prefixed(at, cast, operand))?)
+    cast(alloc, at, name, operand)
+}
+
+/// An operand of one token, `sizeof` of a type, or none.
+#[tactic(auto, unfolding(crate::specs::Cursor::word, crate::specs::Tokens::same_kind))]
+fn plain_primary(
+    alloc: Global,
+    at: Place,
+    tokens: &mut Tokens<'_>,
+) -> Result<Boxed<Expression>, ReadError>
+    ensures { Reads (spec.plain_primary_by at (left.kind tokens.old.rest.now) tokens.old.rest.now) result tokens.new.rest.now }
+{
+    match tokens.peek() {
+        Kind::Name => boxed(alloc, Expression::Name(at, tokens.take())),
+        Kind::Number => boxed(alloc, Expression::Number(at, tokens.take())),
+        Kind::Character => boxed(alloc, Expression::Character(at, tokens.take())),
+        Kind::Sizeof => {
+            tokens.take();
+            measured(alloc, at, tokens)
+        }
+        Kind::OpenBracket => Err(tokens.fault(Reason::Lambda)),
+        _ => Err(tokens.refuse()),
+    }
 }
 
 /// An operand without its prefixes and suffixes.
@@ -436,21 +484,9 @@ fn primary(
     let at = tokens.place();
     if begins_text(tokens.rest) {
         let words = texts(alloc, tokens)?;
-        return Ok(Boxed::new(alloc, Expression::Text(at, words))?);
+        return boxed(alloc, Expression::Text(at, words));
     }
     match tokens.peek() {
-        Kind::Name => {
-            let word = tokens.word(Kind::Name)?;
-            Ok(Boxed::new(alloc, Expression::Name(at, word))?)
-        }
-        Kind::Number => {
-            let word = tokens.word(Kind::Number)?;
-            Ok(Boxed::new(alloc, Expression::Number(at, word))?)
-        }
-        Kind::Character => {
-            let word = tokens.word(Kind::Character)?;
-            Ok(Boxed::new(alloc, Expression::Character(at, word))?)
-        }
         Kind::OpenParen => {
             tokens.take();
             bracketed(alloc, known, at, tokens, depth)
@@ -459,12 +495,7 @@ fn primary(
             tokens.take();
             named_cast(alloc, known, at, tokens, depth)
         }
-        Kind::Sizeof => {
-            tokens.take();
-            measured(alloc, at, tokens)
-        }
-        Kind::OpenBracket => Err(tokens.fault(Reason::Lambda)),
-        _ => Err(tokens.refuse()),
+        _ => plain_primary(alloc, at, tokens),
     }
 }
 
@@ -484,8 +515,7 @@ fn unary(
     let from = tokens.place();
     let operand = primary(alloc, known, tokens, depth)?;
     let behind = suffixes(alloc, known, tokens, depth)?;
-    let operand = suffixed(alloc, from, operand, behind)?;
-    Ok(prefixed(alloc, at, before, operand)?)
+    affixed(alloc, at, before, from, operand, behind)
 }
 
 /// The operand between `?` and `:`, if there is one.
@@ -597,7 +627,7 @@ fn level(
     let at = tokens.place();
     let operand = level(alloc, known, tokens, depth, n - 1)?;
     let more = links(alloc, known, tokens, depth, n - 1)?;
-    Ok(linked(alloc, at, operand, more)?)
+    linked(alloc, at, operand, more)
 }
 
 #[tactic(auto, unfolding(crate::specs::Expression::argument))]
@@ -615,7 +645,7 @@ fn argument(
     }
     let at = tokens.place();
     let name = type_name(alloc, tokens)?;
-    Ok(Boxed::new(alloc, Expression::Type(at, name))?)
+    boxed(alloc, Expression::Type(at, name))
 }
 
 #[tactic(auto, unfolding(crate::specs::Expression::value))]
@@ -633,7 +663,7 @@ fn value(
     }
     let at = tokens.place();
     let found = braces(alloc, known, tokens, depth)?;
-    Ok(Boxed::new(alloc, Expression::Braces(at, found))?)
+    boxed(alloc, Expression::Braces(at, found))
 }
 
 /// An expression in which brackets nest no deeper than `depth`, itself counted.

@@ -252,13 +252,23 @@ pub fn is_macro(tokens: &[Token]) -> bool
 
 /// `NAME (..) {`
 #[tactic(auto, unfolding(crate::specs::Groups::is_macro_loop))]
-pub fn is_macro_loop(tokens: &[Token]) -> bool
+fn is_macro_loop(tokens: &[Token]) -> bool
     ensures { result ≡ spec.is_macro_loop tokens.now }
 {
     match behind_call(tokens) {
         None => false,
         Some(rest) => sees(Kind::OpenBrace, rest),
     }
+}
+
+/// Whether a loop of a macro is here.
+pub fn begins_loop(tokens: &[Token]) -> bool
+    ensures { result ≡ spec.begins_loop tokens.now }
+{
+    !begins_name_label(tokens)
+        && !begins_leave(tokens)
+        && !begins_declaration(tokens)
+        && is_macro_loop(tokens)
 }
 
 #[inline(always)]

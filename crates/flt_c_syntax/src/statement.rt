@@ -1,20 +1,20 @@
 //! Reads statements and blocks.
 
 ghost use Rattle.flt_c_syntax.specs.Cursor as base;
-ghost use Rattle.flt_c_syntax.specs.Cursor.{Reads};
+ghost use Rattle.flt_c_syntax.specs.Cursor.{Reads, Makes};
 ghost use Rattle.flt_c_syntax.specs.Expression as expressions;
 ghost use Rattle.flt_c_syntax.specs.Statement as spec;
 ghost use Rattle.flt_c_syntax.specs.Tokens as left;
 ghost use Rattle.std.specs.Prelude.{◌≡◌, [], ◌∷◌, IfOk};
 
 use crate::class::{Class, Nest, Role};
-use crate::cursor::{Tokens, next, same_kind};
+use crate::cursor::{Tokens, next};
 use crate::declaration::declaration;
 use crate::expression::{arguments, expression};
 use crate::fault::{ReadError, Reason};
 use crate::group::{
-    begins_declaration, begins_label, begins_leave, begins_name_label, ends_list, group, is_macro,
-    is_macro_loop, up_to_semicolon,
+    begins_declaration, begins_label, begins_leave, begins_loop, begins_name_label, ends_list,
+    group, is_macro, up_to_semicolon,
 };
 use crate::tree::{Branch, Expression, Place, Statement};
 use crate::types::sees;
@@ -34,8 +34,7 @@ fn tested(
 {
     tokens.expect(Kind::OpenParen)?;
     let test = expression(alloc, known, tokens, depth, Role::Whole)?;
-    tokens.expect(Kind::CloseParen)?;
-    Ok(test)
+    tokens.ended_by(Kind::CloseParen, test)
 }
 
 /// An expression, if there is one, and the token after it.
@@ -54,12 +53,11 @@ fn optional(
         return Ok(None);
     }
     let found = expression(alloc, known, tokens, depth, Role::Whole)?;
-    tokens.expect(close)?;
-    Ok(Some(found))
+    tokens.ended_by(close, Some(found))
 }
 
-fn one(alloc: Global, statement: Statement) -> Result<Items<Statement>, AllocError>
-    ensures { IfOk result (λ ss. ss ≡ statement ∷ []) }
+fn one(alloc: Global, statement: Statement) -> Result<Items<Statement>, ReadError>
+    ensures { Makes (statement ∷ []) result }
 {
     let mut found = Items::new(alloc);
     found.push(statement)?;
@@ -91,8 +89,7 @@ fn expressed(
     ensures { Reads (spec.expressed known.now depth at tokens.old.rest.now) result tokens.new.rest.now }
 {
     let found = expression(alloc, known, tokens, depth, Role::Whole)?;
-    tokens.expect(Kind::Semicolon)?;
-    Ok(Statement::Expression(at, found))
+    tokens.ended_by(Kind::Semicolon, Statement::Expression(at, found))
 }
 
 /// The first part of a `for`.
@@ -108,7 +105,7 @@ fn first(
     let at = tokens.place();
     if begins_declaration(tokens.rest) {
         let found = declaration(alloc, known, at, tokens, depth)?;
-        return Ok(one(alloc, found)?);
+        return one(alloc, found);
     }
     if tokens.sees(Kind::Semicolon) {
         tokens.take();
@@ -116,7 +113,7 @@ fn first(
     }
     let found = expression(alloc, known, tokens, depth, Role::Whole)?;
     tokens.expect(Kind::Semicolon)?;
-    Ok(one(alloc, Statement::Expression(at, found))?)
+    one(alloc, Statement::Expression(at, found))
 }
 
 /// The last value of a range of cases.
@@ -148,8 +145,7 @@ fn bracketed_arguments(
 {
     tokens.expect(Kind::OpenParen)?;
     let found = arguments(alloc, known, tokens, depth)?;
-    tokens.expect(Kind::CloseParen)?;
-    Ok(found)
+    tokens.ended_by(Kind::CloseParen, found)
 }
 
 /// After `case`.
@@ -165,8 +161,110 @@ fn case(
 {
     let value = expression(alloc, known, tokens, depth, Role::Argument)?;
     let last = last(alloc, known, tokens, depth)?;
-    tokens.expect(Kind::Colon)?;
-    Ok(Statement::Case(at, value, last))
+    tokens.ended_by(Kind::Colon, Statement::Case(at, value, last))
+}
+
+/// A jump, which is here.
+fn jump(at: Place, tokens: &mut Tokens<'_>) -> Result<Statement, ReadError>
+    ensures { Reads (spec.jump_by at (left.kind tokens.old.rest.now) tokens.old.rest.now) result tokens.new.rest.now }
+{
+    let kind = tokens.peek();
+    tokens.take();
+    match kind {
+        Kind::Goto => {
+            let word = tokens.word(Kind::Name)?;
+            tokens.ended_by(Kind::Semicolon, Statement::Goto(at, word))
+        }
+        Kind::Break => tokens.ended_by(Kind::Semicolon, Statement::Break(at)),
+        Kind::Continue => tokens.ended_by(Kind::Semicolon, Statement::Continue(at)),
+        _ => tokens.ended_by(Kind::Semicolon, Statement::Leave(at)),
+    }
+}
+
+/// A `typedef` or an attribute, which is here.
+fn skipped(at: Place, tokens: &mut Tokens<'_>) -> Result<Statement, ReadError>
+    ensures { Reads (spec.skipped_by at (left.kind tokens.old.rest.now) tokens.old.rest.now) result tokens.new.rest.now }
+{
+    match tokens.peek() {
+        Kind::Typedef => {
+            up_to_semicolon(tokens)?;
+            Ok(Statement::Typedef(at))
+        }
+        _ => {
+            let word = tokens.word(Kind::Attribute)?;
+            group(tokens)?;
+            Ok(Statement::Attribute(at, word))
+        }
+    }
+}
+
+/// A statement that begins with no name and has no other one in it.
+#[tactic(auto, unfolding(crate::specs::Statement::plain_statement_by))]
+fn plain_statement(
+    alloc: Global,
+    known: &[Class],
+    at: Place,
+    tokens: &mut Tokens<'_>,
+    depth: usize,
+) -> Result<Statement, ReadError>
+    ensures { Reads (spec.plain_statement_by known.now depth at (left.kind tokens.old.rest.now)
+        tokens.old.rest.now) result tokens.new.rest.now }
+{
+    match tokens.peek() {
+        Kind::Semicolon => {
+            tokens.take();
+            Ok(Statement::Empty(at))
+        }
+        Kind::Case => {
+            tokens.take();
+            case(alloc, known, at, tokens, depth)
+        }
+        Kind::Default => {
+            tokens.take();
+            tokens.ended_by(Kind::Colon, Statement::Default(at))
+        }
+        Kind::Return => {
+            tokens.take();
+            let value = optional(alloc, known, tokens, depth, Kind::Semicolon)?;
+            Ok(Statement::Return(at, value))
+        }
+        Kind::Goto | Kind::Break | Kind::Continue | Kind::Leave => jump(at, tokens),
+        Kind::Typedef | Kind::Attribute => skipped(at, tokens),
+        Kind::TypeWord | Kind::Qualifier | Kind::Struct => {
+            declaration(alloc, known, at, tokens, depth)
+        }
+        _ => expressed(alloc, known, at, tokens, depth),
+    }
+}
+
+/// A statement that begins with a name and has no other one in it.
+#[tactic(auto, unfolding(crate::specs::Statement::plain_named))]
+fn plain_named(
+    alloc: Global,
+    known: &[Class],
+    at: Place,
+    tokens: &mut Tokens<'_>,
+    depth: usize,
+) -> Result<Statement, ReadError>
+    ensures { Reads (spec.plain_named known.now depth at tokens.old.rest.now) result tokens.new.rest.now }
+{
+    if begins_name_label(tokens.rest) {
+        let word = tokens.word(Kind::Name)?;
+        return tokens.ended_by(Kind::Colon, Statement::Label(at, word));
+    }
+    if begins_leave(tokens.rest) {
+        tokens.take();
+        return tokens.ended_by(Kind::Semicolon, Statement::Leave(at));
+    }
+    if begins_declaration(tokens.rest) {
+        return declaration(alloc, known, at, tokens, depth);
+    }
+    if is_macro(tokens.rest) {
+        let word = tokens.word(Kind::Name)?;
+        let given = bracketed_arguments(alloc, known, tokens, depth)?;
+        return Ok(Statement::Macro(at, word, given));
+    }
+    expressed(alloc, known, at, tokens, depth)
 }
 
 #[tactic(auto, unfolding(crate::specs::Statement::else_if))]
@@ -282,8 +380,7 @@ fn repetition(
     let body = nested(alloc, known, tokens, depth, Nest::Body)?;
     tokens.expect(Kind::While)?;
     let test = tested(alloc, known, tokens, depth)?;
-    tokens.expect(Kind::Semicolon)?;
-    Ok(Statement::Do(at, body, test))
+    tokens.ended_by(Kind::Semicolon, Statement::Do(at, body, test))
 }
 
 /// After `__try`.
@@ -386,31 +483,47 @@ fn named(
 ) -> Result<Statement, ReadError>
     ensures { Reads (spec.named known.now depth (spec.nested known.now depth) at tokens.old.rest.now) result tokens.new.rest.now }
 {
-    if begins_name_label(tokens.rest) {
-        let word = tokens.word(Kind::Name)?;
-        tokens.expect(Kind::Colon)?;
-        return Ok(Statement::Label(at, word));
+    if !begins_loop(tokens.rest) {
+        return plain_named(alloc, known, at, tokens, depth);
     }
-    if begins_leave(tokens.rest) {
-        tokens.take();
-        tokens.expect(Kind::Semicolon)?;
-        return Ok(Statement::Leave(at));
+    let word = tokens.word(Kind::Name)?;
+    let given = bracketed_arguments(alloc, known, tokens, depth)?;
+    let body = nested(alloc, known, tokens, depth, Nest::Body)?;
+    Ok(Statement::Loop(at, word, given, body))
+}
+
+/// A statement that begins with a word of the kind, and has a test and a body.
+fn conditional_of(
+    at: Place,
+    kind: Kind,
+    test: Boxed<Expression>,
+    body: Items<Statement>,
+) -> Statement
+    ensures { result ≡ spec.conditional_of at kind test body }
+{
+    match kind {
+        Kind::While => Statement::While(at, test, body),
+        _ => Statement::Switch(at, test, body),
     }
-    if begins_declaration(tokens.rest) {
-        return declaration(alloc, known, at, tokens, depth);
-    }
-    if is_macro_loop(tokens.rest) {
-        let word = tokens.word(Kind::Name)?;
-        let given = bracketed_arguments(alloc, known, tokens, depth)?;
-        let body = nested(alloc, known, tokens, depth, Nest::Body)?;
-        return Ok(Statement::Loop(at, word, given, body));
-    }
-    if is_macro(tokens.rest) {
-        let word = tokens.word(Kind::Name)?;
-        let given = bracketed_arguments(alloc, known, tokens, depth)?;
-        return Ok(Statement::Macro(at, word, given));
-    }
-    expressed(alloc, known, at, tokens, depth)
+}
+
+/// `while` or `switch`, which is here.
+#[cycle(statement)]
+fn conditional(
+    alloc: Global,
+    known: &[Class],
+    at: Place,
+    tokens: &mut Tokens<'_>,
+    depth: usize,
+) -> Result<Statement, ReadError>
+    ensures { Reads (spec.conditional_by known.now depth (spec.nested known.now depth) at (left.kind tokens.old.rest.now)
+        tokens.old.rest.now) result tokens.new.rest.now }
+{
+    let kind = tokens.peek();
+    tokens.take();
+    let test = tested(alloc, known, tokens, depth)?;
+    let body = nested(alloc, known, tokens, depth, Nest::Body)?;
+    Ok(conditional_of(at, kind, test, body))
 }
 
 #[tactic(auto, unfolding(crate::specs::Statement::statement))]
@@ -426,10 +539,6 @@ fn statement(
     let at = tokens.place();
     match tokens.peek() {
         Kind::Name => named(alloc, known, at, tokens, depth),
-        Kind::Semicolon => {
-            tokens.take();
-            Ok(Statement::Empty(at))
-        }
         Kind::OpenBrace => {
             let body = nested(alloc, known, tokens, depth, Nest::Body)?;
             Ok(Statement::Block(at, body))
@@ -438,12 +547,7 @@ fn statement(
             tokens.take();
             choice(alloc, known, at, tokens, depth)
         }
-        Kind::While => {
-            tokens.take();
-            let test = tested(alloc, known, tokens, depth)?;
-            let body = nested(alloc, known, tokens, depth, Nest::Body)?;
-            Ok(Statement::While(at, test, body))
-        }
+        Kind::While | Kind::Switch => conditional(alloc, known, at, tokens, depth),
         Kind::Do => {
             tokens.take();
             repetition(alloc, known, at, tokens, depth)
@@ -452,65 +556,12 @@ fn statement(
             tokens.take();
             counting(alloc, known, at, tokens, depth)
         }
-        Kind::Switch => {
-            tokens.take();
-            let test = tested(alloc, known, tokens, depth)?;
-            let body = nested(alloc, known, tokens, depth, Nest::Body)?;
-            Ok(Statement::Switch(at, test, body))
-        }
-        Kind::Case => {
-            tokens.take();
-            case(alloc, known, at, tokens, depth)
-        }
         Kind::Try => {
             tokens.take();
             guarded(alloc, known, at, tokens, depth)
         }
         Kind::GroupIf => directed(alloc, known, at, tokens, depth),
-        Kind::Default => {
-            tokens.take();
-            tokens.expect(Kind::Colon)?;
-            Ok(Statement::Default(at))
-        }
-        Kind::Goto => {
-            tokens.take();
-            let word = tokens.word(Kind::Name)?;
-            tokens.expect(Kind::Semicolon)?;
-            Ok(Statement::Goto(at, word))
-        }
-        Kind::Return => {
-            tokens.take();
-            let value = optional(alloc, known, tokens, depth, Kind::Semicolon)?;
-            Ok(Statement::Return(at, value))
-        }
-        Kind::Break => {
-            tokens.take();
-            tokens.expect(Kind::Semicolon)?;
-            Ok(Statement::Break(at))
-        }
-        Kind::Continue => {
-            tokens.take();
-            tokens.expect(Kind::Semicolon)?;
-            Ok(Statement::Continue(at))
-        }
-        Kind::Leave => {
-            tokens.take();
-            tokens.expect(Kind::Semicolon)?;
-            Ok(Statement::Leave(at))
-        }
-        Kind::Typedef => {
-            up_to_semicolon(tokens)?;
-            Ok(Statement::Typedef(at))
-        }
-        Kind::Attribute => {
-            let word = tokens.word(Kind::Attribute)?;
-            group(tokens)?;
-            Ok(Statement::Attribute(at, word))
-        }
-        Kind::TypeWord | Kind::Qualifier | Kind::Struct => {
-            declaration(alloc, known, at, tokens, depth)
-        }
-        _ => expressed(alloc, known, at, tokens, depth),
+        _ => plain_statement(alloc, known, at, tokens, depth),
     }
 }
 
@@ -566,14 +617,13 @@ fn body(
     if tokens.sees(Kind::OpenBrace) {
         tokens.expect(Kind::OpenBrace)?;
         let found = statements(alloc, known, tokens, depth)?;
-        tokens.expect(Kind::CloseBrace)?;
-        return Ok(found);
+        return tokens.ended_by(Kind::CloseBrace, found);
     }
     if begins_label(tokens.rest) {
         return Err(tokens.refuse());
     }
     let found = statement(alloc, known, tokens, depth)?;
-    Ok(one(alloc, found)?)
+    one(alloc, found)
 }
 
 /// Statements in which blocks and brackets nest no deeper than `depth`, themselves counted.

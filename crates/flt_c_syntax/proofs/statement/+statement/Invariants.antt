@@ -39,6 +39,9 @@ decreases-directed l = 10 * l.depth + 3
 abbrev pub decreases-named : goal.decreases-named
 decreases-named l = 10 * l.depth + 1
 
+abbrev pub decreases-conditional : goal.decreases-conditional
+decreases-conditional l = 10 * l.depth + 1
+
 abbrev pub decreases-statement : goal.decreases-statement
 decreases-statement l = 10 * l.depth + 5
 
