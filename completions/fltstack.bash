@@ -100,9 +100,9 @@ _fltstack() {
         options='--help'
         ;;
     draft)
-        options='--functions --define --undef --help'
-        valued='--define --undef'
-        repeated='--define --undef'
+        options='--functions --define --undef --include --help'
+        valued='--define --undef --include'
+        repeated='--define --undef --include'
         ;;
     serve)
         options='--help'
@@ -134,6 +134,7 @@ _fltstack() {
         'replay --svg') _fltstack_files .svg ;;
         'emit --part') _fltstack_words source user inf ;;
         'emit --into') _fltstack_files / ;;
+        'draft --include') _fltstack_files / ;;
         esac
     elif [[ -z $is_operand && $word == -* ]]; then
         _fltstack_options

@@ -13,7 +13,7 @@ function __fltstack_operands --argument-names command
             echo -- $word
         else if test $word = --
             set is_operand yes
-        else if contains -- $word --form --color --states --journal --allow --workers --svg --part --into --define --undef
+        else if contains -- $word --form --color --states --journal --allow --workers --svg --part --into --define --undef --include
             set is_value yes
         end
     end
@@ -34,7 +34,7 @@ function __fltstack_after --argument-names command
     set -l words (string replace -r -- '=.*' '' (commandline -opc))
     test "$words[2]" = "$command"; or return 1
     # The value of the last word may be at the cursor.
-    contains -- $words[-1] --form --color --states --journal --allow --workers --svg --part --into --define --undef; and set -e words[-1]
+    contains -- $words[-1] --form --color --states --journal --allow --workers --svg --part --into --define --undef --include; and set -e words[-1]
     for option in $argv[2..]
         contains -- $option $words; and return 1
     end
@@ -238,6 +238,7 @@ complete -c fltstack -n '__fltstack_after draft --functions' -l functions -d 'Sa
 complete -c fltstack -n '__fltstack_after draft' -l define -x -d 'Define a macro before each FILE, as 1 without VALUE'
 complete -c fltstack -n '__fltstack_after draft' -l undef -x \
     -d 'Take a name for no macro at the beginning of each FILE, whatever `--define` says'
+complete -c fltstack -n '__fltstack_after draft' -l include -x -a '(__fltstack_files /)' -d 'Look for headers in this folder'
 complete -c fltstack -n '__fltstack_after draft --help' -s h -l help -d 'Print help'
 complete -c fltstack -n '__fltstack_at draft 0+' -a '(__fltstack_files .c .h .cc .cpp)'
 

@@ -1,5 +1,6 @@
 -- Tables that are declared without rows. This project's own rule.
 use Rattle.std.specs.Prelude.{ℕ, ◌==◌, Bool, true, false, ◌||◌, if◌then◌else◌, List, [], ◌∷◌, ◌++◌, codes, Option, Some, None}
+use Rattle.flt_c_headers.specs.World.{File}
 use Rattle.flt_c_tokens.specs.Bytes.{Text}
 use Rattle.flt_c_tokens.specs.declared.token.Kind.{Kind}
 use Rattle.flt_c_tokens.specs.declared.token.Kind.TheVariants as k
@@ -8,6 +9,7 @@ use Rattle.flt_c_items.specs.declared.item.TableKind.{TableKind}
 use Rattle.flt_c_items.specs.declared.item.TableKind.TheVariants as table
 use Rattle.flt_c_items.specs.declared.words.Words.{Words}
 use Rattle.flt_c_functions.specs.Lines.{kind_words, place}
+use Rattle.flt_c_functions.specs.Places.{file_name}
 use Rattle.flt_c_functions.specs.Texts.{token_text}
 use Rattle.flt_c_functions.specs.declared.bare.Bare.{Bare}
 
@@ -56,6 +58,6 @@ bare_line texts name b =
     place name b.name
     ++ (codes "table " ++ (token_text texts b.name ++ (codes ": " ++ (kind_words b.kind ++ codes ", whose rows are not here\n"))))
 
-abbrev pub bare_text : List Text → Text → Option Bare → Text
-bare_text texts name None = []
-bare_text texts name (Some b) = bare_line texts name b
+abbrev pub bare_text : List Text → List File → Text → Option Bare → Text
+bare_text texts headers name None = []
+bare_text texts headers name (Some b) = bare_line texts (file_name headers name b.name) b

@@ -1,11 +1,13 @@
 pub mod Bare
 pub mod Classes
+pub mod Constants
 pub mod Laws
 pub mod Lines
 pub mod Listing
 pub mod Notes
 pub mod Options
 pub mod Outcomes
+pub mod Places
 pub mod Reasons
 pub mod Sources
 pub mod Strays

@@ -22,3 +22,7 @@ lines_of defined undefined = map define_line defined ++ map undef_line undefined
 
 abbrev pub lines_by : Options → List Text
 lines_by o = lines_of (map (λ z. z.now) o.defined.now) (map (λ z. z.now) o.undefined.now)
+
+-- the folders in which headers are looked for
+abbrev pub folders_by : Options → List Text
+folders_by o = map (λ z. z.now) o.folders.now

@@ -1,5 +1,6 @@
 -- Places outside of bodies that are no token of C. This project's own rule.
 use Rattle.std.specs.Prelude.{ℕ, Bool, true, false, if◌then◌else◌, List, [], ◌∷◌, ◌++◌, codes, Option, Some, None}
+use Rattle.flt_c_headers.specs.World.{File}
 use Rattle.flt_c_tokens.specs.Bytes.{Text}
 use Rattle.flt_c_tokens.specs.declared.token.Kind.{Kind}
 use Rattle.flt_c_tokens.specs.declared.token.Kind.TheVariants as k
@@ -11,6 +12,7 @@ use Rattle.flt_c_items.specs.declared.item.Part.TheVariants as part
 use Rattle.flt_c_syntax.specs.declared.fault.Reason.{Reason}
 use Rattle.flt_c_syntax.specs.declared.fault.Reason.TheVariants as reasons
 use Rattle.flt_c_functions.specs.Lines.{place}
+use Rattle.flt_c_functions.specs.Places.{file_name}
 use Rattle.flt_c_functions.specs.Reasons.{reason_words}
 use Rattle.flt_c_functions.specs.declared.stray.Stray.{Stray}
 
@@ -44,6 +46,6 @@ stray_in ts i = first_stray (stretch i.from (end_of i.part i.from i.to) ts)
 unfoldable pub stray_line : Text → Token → Reason → Text
 stray_line name t why = place name t ++ (codes "not read: " ++ (reason_words why ++ codes "\n"))
 
-abbrev pub stray_text : Text → Option Stray → Text
-stray_text name None = []
-stray_text name (Some x) = stray_line name x.token x.reason
+abbrev pub stray_text : List File → Text → Option Stray → Text
+stray_text headers name None = []
+stray_text headers name (Some x) = stray_line (file_name headers name x.token) x.token x.reason

@@ -4,8 +4,10 @@ ghost use Rattle.std.specs.Prelude.{◌≡◌, ◌++◌, OnOk};
 ghost use Rattle.flt_c_functions.specs.Bare as spec;
 
 use crate::line::{put, put_place};
+use crate::place::file_name;
 use crate::table::kind_words;
 use crate::text::put_token;
+use flt_c_headers::Headers;
 use flt_c_items::{TableKind, Words};
 use flt_c_tokens::{Kind, Spellings, Token};
 use std::alloc::AllocError;
@@ -83,7 +85,7 @@ pub(crate) fn bare_table(words: &Words, tokens: &[Token]) -> Option<Bare>
 fn put_line(
     out: &mut Vec<u8>,
     spellings: &Spellings,
-    name: &str,
+    name: &[u8],
     table: Bare,
 ) -> Result<(), AllocError>
     ensures { OnOk result (out.new.items ≡ out.old.items ++ spec.bare_line spellings.now name.now table) }
@@ -100,13 +102,14 @@ fn put_line(
 pub(crate) fn put_bare(
     out: &mut Vec<u8>,
     spellings: &Spellings,
+    headers: &Headers,
     name: &str,
     table: Option<Bare>,
 ) -> Result<(), AllocError>
-    ensures { OnOk result (out.new.items ≡ out.old.items ++ spec.bare_text spellings.now name.now table) }
+    ensures { OnOk result (out.new.items ≡ out.old.items ++ spec.bare_text spellings.now headers.now.files name.now table) }
 {
     match table {
         None => Ok(()),
-        Some(table) => put_line(out, spellings, name, table),
+        Some(table) => { put_line(out, spellings, file_name(headers, name, table.name), table) }
     }
 }

@@ -29,10 +29,10 @@ fn put_number(out: &mut Vec<u8>, number: u32) -> Result<(), AllocError>
 
 /// Adds the name of a file, and a token's place in it.
 #[tactic(auto, unfolding(crate::specs::Lines::place))]
-pub(crate) fn put_place(out: &mut Vec<u8>, name: &str, token: Token) -> Result<(), AllocError>
+pub(crate) fn put_place(out: &mut Vec<u8>, name: &[u8], token: Token) -> Result<(), AllocError>
     ensures { OnOk result (out.new.items ≡ out.old.items ++ spec.place name.now token) }
 {
-    put_shown(out, name.as_bytes())?;
+    put_shown(out, name)?;
     put(out, b":")?;
     put_number(out, token.line)?;
     put(out, b":")?;
@@ -88,7 +88,7 @@ fn put_outcome(out: &mut Vec<u8>, outcome: Option<Fault>, is_cut: bool) -> Resul
 pub(crate) fn put_function(
     out: &mut Vec<u8>,
     spellings: &Spellings,
-    name: &str,
+    name: &[u8],
     token: Token,
     outcome: Option<Fault>,
     is_cut: bool,
@@ -107,7 +107,7 @@ pub(crate) fn put_function(
 #[tactic(auto, unfolding(crate::specs::Lines::unread_line))]
 pub(crate) fn put_unread(
     out: &mut Vec<u8>,
-    name: &str,
+    name: &[u8],
     token: Token,
     reason: ItemReason,
 ) -> Result<(), AllocError>

@@ -5,7 +5,9 @@ ghost use Rattle.flt_c_functions.specs.Notes as spec;
 ghost use Rattle.flt_c_functions.specs.Texts.{token_text};
 
 use crate::line::{put, put_place};
+use crate::place::{file_name, is_told};
 use crate::text::put_token;
+use flt_c_headers::Headers;
 use flt_c_macros::{Note, NoteKind};
 use flt_c_tokens::{Spellings, Token};
 use std::alloc::AllocError;
@@ -35,6 +37,10 @@ fn put_words(out: &mut Vec<u8>, spellings: &Spellings, note: Note) -> Result<(),
         NoteKind::Keyword => put(out, b"not read: a keyword is no macro"),
         NoteKind::OpenGroup => put(out, b"not read: this #if has no #endif"),
         NoteKind::NoGroup => put(out, b"not read: no #if is open here"),
+        NoteKind::Header => put(
+            out,
+            b"not read: this header is too large, too deep, or one too many",
+        ),
         NoteKind::Large => {
             let why = b": too many tokens, or too many macros within each other";
             put_unexpanded(out, spellings, name, why)
@@ -59,7 +65,7 @@ fn put_words(out: &mut Vec<u8>, spellings: &Spellings, note: Note) -> Result<(),
 fn put_note(
     out: &mut Vec<u8>,
     spellings: &Spellings,
-    name: &str,
+    name: &[u8],
     note: Note,
 ) -> Result<(), AllocError>
     ensures { OnOk result (out.new.items ≡ out.old.items ++ spec.note_line spellings.now name.now note) }
@@ -69,17 +75,38 @@ fn put_note(
     put(out, b"\n")
 }
 
+/// Adds the line of a note of a file of this name, unless it is in a header that is listed already.
+fn put_note_once(
+    out: &mut Vec<u8>,
+    spellings: &Spellings,
+    headers: &Headers,
+    told: &[u32],
+    name: &str,
+    note: Note,
+) -> Result<(), AllocError>
+    ensures { OnOk result (out.new.items ≡
+        out.old.items ++ spec.note_text spellings.now headers.now.files told.now name.now note) }
+{
+    if is_told(headers, told, note.at) {
+        return Ok(());
+    }
+    put_note(out, spellings, file_name(headers, name, note.at), note)
+}
+
 /// Adds the lines of notes.
 pub(crate) fn put_notes(
     out: &mut Vec<u8>,
     spellings: &Spellings,
+    headers: &Headers,
+    told: &[u32],
     name: &str,
     notes: &[Note],
 ) -> Result<(), AllocError>
-    ensures { OnOk result (out.new.items ≡ out.old.items ++ spec.note_lines spellings.now name.now notes.now) }
+    ensures { OnOk result (out.new.items ≡
+        out.old.items ++ spec.note_lines spellings.now headers.now.files told.now name.now notes.now) }
 {
     for note in notes {
-        put_note(out, spellings, name, *note)?;
+        put_note_once(out, spellings, headers, told, name, *note)?;
     }
     Ok(())
 }

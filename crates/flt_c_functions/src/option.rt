@@ -6,13 +6,15 @@ ghost use Rattle.flt_c_functions.specs.Options as spec;
 use crate::line::put;
 use std::alloc::{AllocError, Global};
 
-/// The macros that are defined before each file, and the names of none.
+/// The macros that are defined before each file, the names of none, and the folders of headers.
 #[derive(Clone, Copy)]
 pub struct Options<'a> {
     /// The definitions, in order: NAME, which is then 1, or NAME=VALUE.
     pub defined: &'a [&'a str],
     /// The names that are no macros. They count after the definitions.
     pub undefined: &'a [&'a str],
+    /// The folders in which headers are looked for, in order.
+    pub folders: &'a [&'a str],
 }
 
 /// Adds a definition, with a blank in place of its first `=`.

@@ -1,57 +1,32 @@
 //! Files of one driver: their tokens without directives, by one table of texts, and their items.
 
-ghost use Rattle.std.specs.Prelude.{◌≡◌, [], ◌∷◌, ◌++◌, IfOk, MatchResult, map};
+ghost use Rattle.std.specs.Prelude.{◌≡◌, [], ◌∷◌, ◌++◌, IfOk, MatchResult, Ok, map};
 ghost use Rattle.flt_c_functions.specs.Sources as spec;
-ghost use Rattle.flt_c_tokens.specs.Tokens.{IsExcess};
 
+use crate::constant::kept;
 use crate::words::words_of;
+use flt_c_headers::{HeaderFiles, Headers, add_tokens, link};
 use flt_c_items::{Item, Words, items};
 use flt_c_macros::{Expansion, MacroError, Note, expanded};
-use flt_c_tokens::{Excess, Kind, Spellings, Token, tokens};
+use flt_c_tokens::{Excess, Kind, Spellings, Token};
 use sqlite_items::Items;
 use std::alloc::{AllocError, Global};
 
-/// A file with its tokens, macros expanded, the notes on these, its items, and the words that say what these are.
+/// A file with its tokens, macros expanded, the notes on these, the numbers of the headers that were read in it, its items, and the words
+/// that say what these are.
 #[derive(Drop)]
 pub(crate) struct Source<'a> {
     pub name: &'a str,
     pub words: Words,
     pub tokens: Items<Token>,
     pub notes: Items<Note>,
+    pub headers: Items<u32>,
     pub items: Items<Item>,
 }
 
 // ---- tokens
 
-/// All tokens but the last one.
-fn but_last(tokens: &[Token]) -> &[Token]
-    ensures { result.now ≡ spec.but_last tokens.now }
-{
-    &tokens[..tokens.len().saturating_sub(1)]
-}
-
-/// Adds the tokens of a text but for its end, or says why it has none.
-fn add_tokens(
-    alloc: Global,
-    spellings: &mut Spellings,
-    text: &[u8],
-    found: &mut Vec<Token>,
-) -> Result<Result<(), Excess>, AllocError>
-    ensures { IfOk result (λ done. MatchResult done
-        (λ _. spec.Adds spellings.old text.now found.old.items spellings.new found.new.items)
-        (λ excess. IsExcess spellings.old text.now excess)) }
-{
-    match tokens(alloc, spellings, text)? {
-        Err(excess) => Ok(Err(excess)),
-        Ok(tokens) => {
-            let _count = spellings.len();
-            found.extend_from_slice(but_last(tokens.as_slice()))?;
-            Ok(Ok(()))
-        }
-    }
-}
-
-/// The same of lines, one after the other.
+/// Adds the tokens of lines, one after the other.
 fn add_lines(
     alloc: Global,
     spellings: &mut Spellings,
@@ -70,27 +45,6 @@ fn add_lines(
         rest = after;
     }
     Ok(Ok(()))
-}
-
-/// The tokens of lines and of the file after them.
-fn all_tokens(
-    alloc: Global,
-    spellings: &mut Spellings,
-    lines: &[Vec<u8>],
-    file: &[u8],
-) -> Result<Result<Vec<Token>, Excess>, AllocError>
-    ensures { IfOk result (λ done. MatchResult done
-        (λ found. spec.AddsAll spellings.old (spec.read_for (map (λ l. l.items) lines.now) file.now) [] spellings.new found.items)
-        (λ excess. spec.AreUnfit spellings.old (spec.read_for (map (λ l. l.items) lines.now) file.now) excess)) }
-{
-    let mut found = Vec::new(alloc);
-    if let Err(excess) = add_lines(alloc, spellings, lines, &mut found)? {
-        return Ok(Err(excess));
-    }
-    if let Err(excess) = add_tokens(alloc, spellings, file, &mut found)? {
-        return Ok(Err(excess));
-    }
-    Ok(Ok(found))
 }
 
 // ---- languages
@@ -124,32 +78,33 @@ fn in_c(alloc: Global, tokens: &[Token]) -> Result<Vec<Token>, AllocError>
     Ok(found)
 }
 
-/// The tokens of a file of this name.
-fn in_language(alloc: Global, name: &str, tokens: Vec<Token>) -> Result<Vec<Token>, AllocError>
-    ensures { IfOk result (λ found. found.items ≡ spec.in_language (spec.is_cpp name.now) tokens.items) }
+/// The same of the tokens of headers.
+fn headers_in_c(alloc: Global, headers: &[Items<Token>]) -> Result<Vec<Items<Token>>, AllocError>
+    ensures { IfOk result (λ found. found.items ≡ map (map spec.in_c) headers.now) }
 {
-    if is_cpp(name.as_bytes()) {
-        Ok(tokens)
-    } else {
-        in_c(alloc, tokens.as_slice())
+    let mut found = Vec::new(alloc);
+    for tokens in headers {
+        let in_c = in_c(alloc, tokens.as_slice())?;
+        found.push(Items::from_vec(in_c))?;
     }
+    Ok(found)
 }
 
 // ---- files
 
-/// Tokens of a file of this name without directives.
+/// Macros of some tokens are expanded, but for names of constants; or why they aren't.
 fn expand(
     alloc: Global,
     spellings: &mut Spellings,
-    name: &str,
-    tokens: Vec<Token>,
+    headers: &[Items<Token>],
+    tokens: &[Token],
 ) -> Result<Result<Expansion, Excess>, AllocError>
     ensures { IfOk result (λ done. MatchResult done
-        (λ found. spec.Gives name.now spellings.old tokens.items spellings.new found)
-        (λ excess. spec.Stops name.now spellings.old tokens.items excess)) }
+        (λ found. spec.expanded spellings.old headers.now tokens.now ≡ Ok (spellings.new, found))
+        (λ excess. spec.IsPlace (spec.expanded spellings.old headers.now tokens.now) excess)) }
 {
-    let tokens = in_language(alloc, name, tokens)?;
-    match expanded(alloc, spellings, &[], tokens.as_slice()) {
+    let kept = kept(alloc, spellings, headers, tokens)?;
+    match expanded(alloc, spellings, kept.as_slice(), headers, tokens) {
         Ok(found) => Ok(Ok(found)),
         Err(MacroError::TooManySpellings { line, column }) => {
             Ok(Err(Excess::TooManySpellings { line, column }))
@@ -158,21 +113,95 @@ fn expand(
     }
 }
 
-/// The tokens of a file of this name after some lines, without directives, or why there are none.
-fn read(
+/// Tokens of a file of this name without directives.
+#[tactic(auto, unfolding(crate::specs::Sources::expansion))]
+fn expand_in_language(
     alloc: Global,
     spellings: &mut Spellings,
+    headers: &Headers,
+    name: &str,
+    tokens: Vec<Token>,
+) -> Result<Result<Expansion, Excess>, AllocError>
+    ensures { IfOk result (λ done. MatchResult done
+        (λ found. spec.Gives name.now tokens.items (record { texts = spellings.old; headers = headers.now }) spellings.new found)
+        (λ excess. spec.Stops name.now tokens.items (record { texts = spellings.old; headers = headers.now }) excess)) }
+{
+    if is_cpp(name.as_bytes()) {
+        return expand(alloc, spellings, headers.tokens(), tokens.as_slice());
+    }
+    let tokens = in_c(alloc, tokens.as_slice())?;
+    let headers = headers_in_c(alloc, headers.tokens())?;
+    expand(alloc, spellings, headers.as_slice(), tokens.as_slice())
+}
+
+/// The tokens of lines, and then of a file of this name with headers in the place of their names, or why there are none.
+fn linked<I: HeaderFiles>(
+    alloc: Global,
+    inputs: &I,
+    folders: &[&str],
+    spellings: &mut Spellings,
+    headers: &mut Headers,
+    lines: &[Vec<u8>],
+    name: &str,
+    file: &[u8],
+) -> Result<Result<Vec<Token>, Excess>, AllocError>
+    ensures { IfOk result (λ done. MatchResult done
+        (λ found. spec.Links (I.gives inputs.now) (map (λ folder. folder.now) folders.now) (map (λ l. l.items) lines.now)
+        (record { texts = spellings.old; headers = headers.old }) name.now file.now found.items
+        (record { texts = spellings.new; headers = headers.new }))
+        (λ excess. spec.IsUnread (I.gives inputs.now) (map (λ folder. folder.now) folders.now) (map (λ l. l.items) lines.now)
+        (record { texts = spellings.old; headers = headers.old }) name.now file.now excess)) }
+{
+    let mut found = Vec::new(alloc);
+    if let Err(excess) = add_lines(alloc, spellings, lines, &mut found)? {
+        return Ok(Err(excess));
+    }
+    let mut own = Vec::new(alloc);
+    if let Err(excess) = add_tokens(alloc, spellings, file, &mut own)? {
+        return Ok(Err(excess));
+    }
+    let linked = link(
+        alloc,
+        inputs,
+        folders,
+        spellings,
+        headers,
+        name,
+        file,
+        own.as_slice(),
+    )?;
+    match linked {
+        Err(excess) => Ok(Err(excess)),
+        Ok(own) => {
+            found.extend_from_slice(own.as_slice())?;
+            Ok(Ok(found))
+        }
+    }
+}
+
+/// The tokens of a file of this name after some lines, without directives, or why there are none.
+fn read<I: HeaderFiles>(
+    alloc: Global,
+    inputs: &I,
+    folders: &[&str],
+    spellings: &mut Spellings,
+    headers: &mut Headers,
     lines: &[Vec<u8>],
     name: &str,
     file: &[u8],
 ) -> Result<Result<Expansion, Excess>, AllocError>
     ensures { IfOk result (λ done. MatchResult done
-        (λ found. spec.Expands (map (λ l. l.items) lines.now) spellings.old name.now file.now spellings.new found)
-        (λ excess. spec.IsUnread (map (λ l. l.items) lines.now) spellings.old name.now file.now excess)) }
+        (λ found. spec.Expands (I.gives inputs.now) (map (λ folder. folder.now) folders.now) (map (λ l. l.items) lines.now)
+        (record { texts = spellings.old; headers = headers.old }) name.now file.now
+        (record { texts = spellings.new; headers = headers.new }) found)
+        (λ excess. spec.IsUnread (I.gives inputs.now) (map (λ folder. folder.now) folders.now) (map (λ l. l.items) lines.now)
+        (record { texts = spellings.old; headers = headers.old }) name.now file.now excess)) }
 {
-    match all_tokens(alloc, spellings, lines, file)? {
+    match linked(
+        alloc, inputs, folders, spellings, headers, lines, name, file,
+    )? {
         Err(excess) => Ok(Err(excess)),
-        Ok(tokens) => expand(alloc, spellings, name, tokens),
+        Ok(tokens) => expand_in_language(alloc, spellings, headers, name, tokens),
     }
 }
 
@@ -192,25 +221,33 @@ fn source_of<'a>(
         words,
         tokens: read.tokens,
         notes: read.notes,
+        headers: read.headers,
         items: Items::from_vec(items),
     })
 }
 
 /// Reads a file of this name and adds it to those before it, or says why it isn't read.
-fn add_source<'a>(
+fn add_source<'a, I: HeaderFiles>(
     alloc: Global,
+    inputs: &I,
+    folders: &[&str],
     spellings: &mut Spellings,
+    headers: &mut Headers,
     lines: &[Vec<u8>],
     name: &'a str,
     file: &[u8],
     found: &mut Vec<Source<'a>>,
 ) -> Result<Result<(), Excess>, AllocError>
     ensures { IfOk result (λ done. MatchResult done
-        (λ _. spec.AddsSource (map (λ l. l.items) lines.now) spellings.old name.entry.now file.now
-        found.old.items spellings.new found.new.items)
-        (λ excess. spec.IsUnread (map (λ l. l.items) lines.now) spellings.old name.entry.now file.now excess)) }
+        (λ _. spec.AddsSource (I.gives inputs.now) (map (λ folder. folder.now) folders.now) (map (λ l. l.items) lines.now)
+        (record { texts = spellings.old; headers = headers.old }) name.entry.now file.now found.old.items
+        (record { texts = spellings.new; headers = headers.new }) found.new.items)
+        (λ excess. spec.IsUnread (I.gives inputs.now) (map (λ folder. folder.now) folders.now) (map (λ l. l.items) lines.now)
+        (record { texts = spellings.old; headers = headers.old }) name.entry.now file.now excess)) }
 {
-    match read(alloc, spellings, lines, name, file)? {
+    match read(
+        alloc, inputs, folders, spellings, headers, lines, name, file,
+    )? {
         Err(excess) => Ok(Err(excess)),
         Ok(read) => {
             let source = source_of(alloc, spellings, name, read)?;
@@ -231,18 +268,23 @@ fn name_at<'a>(names: &[&'a str], number: usize) -> &'a str
 }
 
 /// Files of these names after the same lines, or the first that isn't read, by its number from 0, and why.
-pub(crate) fn read_sources<'a>(
+pub(crate) fn read_sources<'a, I: HeaderFiles>(
     alloc: Global,
+    inputs: &I,
+    folders: &[&str],
     spellings: &mut Spellings,
+    headers: &mut Headers,
     lines: &[Vec<u8>],
     names: &[&'a str],
     files: &[Vec<u8>],
 ) -> Result<Result<Vec<Source<'a>>, (usize, Excess)>, AllocError>
     ensures { IfOk result (λ done. MatchResult done
-        (λ found. spec.AreRead (map (λ l. l.items) lines.now) (map (λ name. name.now) names.now) 0
-        spellings.old (map (λ file. file.items) files.now) spellings.new found.items)
-        (λ stopped. spec.IsFirstUnread (map (λ l. l.items) lines.now) (map (λ name. name.now) names.now) 0
-        spellings.old (map (λ file. file.items) files.now) stopped.0 stopped.1)) }
+        (λ found. spec.AreRead (I.gives inputs.now) (map (λ folder. folder.now) folders.now) (map (λ l. l.items) lines.now)
+        (map (λ name. name.now) names.now) 0 (record { texts = spellings.old; headers = headers.old })
+        (map (λ file. file.items) files.now) (record { texts = spellings.new; headers = headers.new }) found.items)
+        (λ stopped. spec.IsFirstUnread (I.gives inputs.now) (map (λ folder. folder.now) folders.now) (map (λ l. l.items) lines.now)
+        (map (λ name. name.now) names.now) 0 (record { texts = spellings.old; headers = headers.old })
+        (map (λ file. file.items) files.now) stopped.0 stopped.1)) }
 {
     let mut found = Vec::new(alloc);
     let mut at: usize = 0;
@@ -251,7 +293,10 @@ pub(crate) fn read_sources<'a>(
         let name = name_at(names, at);
         if let Err(excess) = add_source(
             alloc,
+            inputs,
+            folders,
             spellings,
+            headers,
             lines,
             name,
             file.as_slice(),

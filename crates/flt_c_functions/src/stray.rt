@@ -5,7 +5,9 @@ ghost use Rattle.flt_c_functions.specs.Strays as spec;
 
 use crate::body::stretch;
 use crate::line::{put, put_place};
+use crate::place::file_name;
 use crate::reason::reason_words;
+use flt_c_headers::Headers;
 use flt_c_items::{Item, Part};
 use flt_c_syntax::Reason;
 use flt_c_tokens::{Kind, Token};
@@ -67,7 +69,7 @@ pub(crate) fn stray_in(tokens: &[Token], item: &Item) -> Option<Stray>
 
 /// Adds the line of such a token.
 #[tactic(auto, unfolding(crate::specs::Strays::stray_line))]
-fn put_line(out: &mut Vec<u8>, name: &str, stray: Stray) -> Result<(), AllocError>
+fn put_line(out: &mut Vec<u8>, name: &[u8], stray: Stray) -> Result<(), AllocError>
     ensures { OnOk result (out.new.items ≡ out.old.items ++ spec.stray_line name.now stray.token stray.reason) }
 {
     put_place(out, name, stray.token)?;
@@ -79,13 +81,14 @@ fn put_line(out: &mut Vec<u8>, name: &str, stray: Stray) -> Result<(), AllocErro
 /// Adds it, if there is one.
 pub(crate) fn put_stray(
     out: &mut Vec<u8>,
+    headers: &Headers,
     name: &str,
     stray: Option<Stray>,
 ) -> Result<(), AllocError>
-    ensures { OnOk result (out.new.items ≡ out.old.items ++ spec.stray_text name.now stray) }
+    ensures { OnOk result (out.new.items ≡ out.old.items ++ spec.stray_text headers.now.files name.now stray) }
 {
     match stray {
         None => Ok(()),
-        Some(stray) => put_line(out, name, stray),
+        Some(stray) => put_line(out, file_name(headers, name, stray.token), stray),
     }
 }

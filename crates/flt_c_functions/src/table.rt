@@ -118,7 +118,7 @@ fn put_rows(
 fn put_table_line(
     out: &mut Vec<u8>,
     spellings: &Spellings,
-    name: &str,
+    name: &[u8],
     table: &Table,
 ) -> Result<(), AllocError>
     ensures { OnOk result (out.new.items ≡ out.old.items ++ spec.table_line spellings.now name.now table.now) }
@@ -135,7 +135,7 @@ fn put_table_line(
 pub(crate) fn put_table(
     out: &mut Vec<u8>,
     spellings: &Spellings,
-    name: &str,
+    name: &[u8],
     tokens: &[Token],
     table: &Table,
 ) -> Result<(), AllocError>

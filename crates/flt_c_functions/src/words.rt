@@ -9,7 +9,7 @@ use flt_c_tokens::Spellings;
 
 /// The number of a text, or one that no token has.
 #[tactic(auto, using(crate::proofs::Numbers::number_absent))]
-fn number_of(spellings: &Spellings, text: &[u8]) -> u32
+pub(crate) fn number_of(spellings: &Spellings, text: &[u8]) -> u32
     ensures { result ≡ number_of spellings.now text.now }
 {
     match spellings.number_of(text) {

@@ -1,3 +1,4 @@
+mod Headers
 mod Parts
 mod Passed
 mod Spellings

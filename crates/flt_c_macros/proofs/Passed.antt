@@ -6,7 +6,7 @@ use Rattle.flt_c_tokens.specs.declared.token.Kind.TheVariants as k
 use Rattle.flt_c_tokens.specs.declared.token.Token.{Token}
 use Rattle.flt_c_macros.specs.Kinds.{same_kind}
 use Rattle.flt_c_macros.specs.States.{World}
-use Rattle.flt_c_macros.specs.Whole.{Beginning, part_read, ends, beginning, read}
+use Rattle.flt_c_macros.specs.Whole.{Beginning, Entry, part_read, ends, beginning, read}
 use Rattle.flt_c_macros.proofs.Parts.{range_more, range_none}
 
 -- the token at a place, and those behind it
@@ -19,25 +19,25 @@ more_item : (tokens : List Token) (start i : ℕ) (t : Token) → start ≤ i �
 more_item tokens start i t within some is =
     ap (λ u. slice_range tokens start i ++ u ∷ []) is ∙ sym (range_more tokens start i t within some)
 
-module _ (kept : List Bool) (at : Beginning) (tokens : List Token) (start i : ℕ) (t : Token) (w : World) (within : start ≤ i)
+module _ (kept : List Bool) (enter : Entry) (at : Beginning) (tokens : List Token) (start i : ℕ) (t : Token) (w : World) (within : start ≤ i)
     (some : i < length tokens) (is : t ≡ get_or tokens i t) (more : same_kind t.kind k.End ≡ false) where
   -- a token of the same part
   pub goes_on : ends at t ≡ false →
-      read kept at (slice_range tokens start i) (drop i tokens) w
-      ≡ read kept at (slice_range tokens start (i + 1)) (drop (i + 1) tokens) w
+      read kept enter at (slice_range tokens start i) (drop i tokens) w
+      ≡ read kept enter at (slice_range tokens start (i + 1)) (drop (i + 1) tokens) w
   goes_on same =
       rw (at_item tokens i t some is, more, same)
-      (ap (λ p. read kept at p (drop (i + 1) tokens) w) (more_item tokens start i t within some is))
+      (ap (λ p. read kept enter at p (drop (i + 1) tokens) w) (more_item tokens start i t within some is))
 
   -- a token that ends the part
-  pub begins : (v : World) → ends at t ≡ true → part_read kept at (slice_range tokens start i) (drop (i + 1) tokens) w ≡ Ok v →
-      read kept at (slice_range tokens start i) (drop i tokens) w
-      ≡ read kept (beginning t) (slice_range tokens (i + 1) (i + 1)) (drop (i + 1) tokens) v
+  pub begins : (v : World) → ends at t ≡ true → part_read kept enter at (slice_range tokens start i) (drop (i + 1) tokens) w ≡ Ok v →
+      read kept enter at (slice_range tokens start i) (drop i tokens) w
+      ≡ read kept enter (beginning t) (slice_range tokens (i + 1) (i + 1)) (drop (i + 1) tokens) v
   begins v over done =
       rw (at_item tokens i t some is, more, over, done)
-      (ap (λ p. read kept (beginning t) p (drop (i + 1) tokens) v) (sym (range_none tokens (i + 1))))
+      (ap (λ p. read kept enter (beginning t) p (drop (i + 1) tokens) v) (sym (range_none tokens (i + 1))))
 
   -- a part for which there would be too many spellings
-  pub fails : (place : ℕ × ℕ) → ends at t ≡ true → part_read kept at (slice_range tokens start i) (drop (i + 1) tokens) w ≡ Err place →
-      read kept at (slice_range tokens start i) (drop i tokens) w ≡ Err place
+  pub fails : (place : ℕ × ℕ) → ends at t ≡ true → part_read kept enter at (slice_range tokens start i) (drop (i + 1) tokens) w ≡ Err place →
+      read kept enter at (slice_range tokens start i) (drop i tokens) w ≡ Err place
   fails place over done = rw (at_item tokens i t some is, more, over, done) refl

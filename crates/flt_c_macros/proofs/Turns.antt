@@ -1,8 +1,8 @@
 -- The turns that a machine takes are enough: nothing is left to be read.
 use Rattle.std.proofs.Common.{◌≡◌, ℕ, zero, suc, ◌+◌, ◌-◌, ◌<◌, ◌≤◌, Bool, true, false, List, [], ◌∷◌, ◌++◌, length, take, drop}
-use Rattle.std.proofs.Common.{refl, ap, ◌∙◌, arith, length-append, length-drop}
+use Rattle.std.proofs.Common.{refl, ap, ◌∙◌, sym, subst, arith, length-append, length-drop}
 use Rattle.std.proofs.lemmas.List.{length-map}
-use Rattle.std.specs.Prelude.{Option, Some, None, nat_le, nat_lt, if◌then◌else◌}
+use Rattle.std.specs.Prelude.{Option, Some, None, nat_lt, not, ◌||◌, ◌==◌, if◌then◌else◌}
 use Rattle.flt_c_tokens.specs.declared.token.Token.{Token}
 use Rattle.flt_c_macros.specs.declared.arguments.Search.{Search}
 use Rattle.flt_c_macros.specs.declared.arguments.Stage.{Stage}
@@ -16,8 +16,7 @@ use Rattle.flt_c_macros.specs.declared.macros.Macro.{Macro}
 use Rattle.flt_c_macros.specs.declared.macros.Macro.TheVariants.{Undefined, Plain, WithParameters, Undecided}
 use Rattle.flt_c_macros.specs.declared.note.NoteKind.{NoteKind}
 use Rattle.flt_c_macros.specs.declared.note.NoteKind.TheVariants as note
-use Rattle.flt_c_macros.specs.declared.note.Note.{Note}
-use Rattle.flt_c_macros.specs.Arguments.{commas_of, passed, unclosed}
+use Rattle.flt_c_macros.specs.Arguments.{are_given, commas_of, passed, unclosed}
 use Rattle.flt_c_macros.specs.Bodies.{apart, filled, has_name, has_sign, words_of}
 use Rattle.flt_c_macros.specs.Items.{colored, items_of, plain}
 use Rattle.flt_c_macros.specs.Macros.{Known}
@@ -25,47 +24,67 @@ use Rattle.flt_c_macros.specs.Machines as machines
 use Rattle.flt_c_macros.specs.Uses as spec
 use Rattle.flt_c_macros.proofs.Uses.{read_turns, turns_over, words_length}
 
--- what is put in is paid
+-- what is put in is paid, and a word is written at most
 abbrev IsPaid : Machine → Machine → Type 0
-IsPaid m v = (machines.size v ≤ machines.size m) × (v.left ≤ m.left)
+IsPaid m v = (machines.size v ≤ machines.size m) × (v.left ≤ m.left) × (length v.written ≤ suc (length m.written))
 
-same : (m v : Machine) → v.items ≡ m.items → v.left ≡ m.left → IsPaid m v
-same m v items left = let e : length v.items ≡ length m.items = ap length items in (omega (arith, e, left), omega (arith, left))
+-- a word is written
+writes : (w : Word) (m v : Machine) → v.items ≡ m.items → v.left ≤ m.left → v.written ≡ m.written ++ w ∷ [] → IsPaid m v
+writes w m v items left written =
+    let e : length v.items ≡ length m.items = ap length items in
+    let long : length v.written ≡ length m.written + 1 = ap length written ∙ length-append m.written (w ∷ []) in
+    (omega (arith, e, left), left, omega (arith, long))
+
+-- a name stays
+stays : (t : Token) (m v : Machine) → v.items ≡ m.items → v.left ≤ m.left →
+    v.written ≡ m.written ++ record { token = t; is_painted = true } ∷ [] → IsPaid m v
+stays t m v items left written = writes (record { token = t; is_painted = true }) m v items left written
 
 if_paid : (b : Bool) (m x y : Machine) → (b ≡ true → IsPaid m x) → (b ≡ false → IsPaid m y) → IsPaid m (if b then x else y)
 if_paid true m x y left right = left refl
 if_paid false m x y left right = right refl
 
-less : (a b : ℕ) → nat_le a b ≡ false → b < a
-less a b not_within = grind (arith, not_within)
+within : (a b : ℕ) → nat_lt a b ≡ false → b ≤ a
+within a b not_less = grind (arith, not_less)
 
--- a body, where the machine has so many items at most and so much is left
-entered : (name : ℕ) (words : List Word) (m v : Machine) → length words < v.left → IsPaid m v → IsPaid m (machines.entered name words v)
-entered name words m v few paid =
+room : (count names left : ℕ) → machines.is_large count names left ≡ false → count < left
+room count names left fits = grind (arith, fits)
+
+-- a body for which a machine has paid
+entered : (name : ℕ) (words : List Word) (m v : Machine) → machines.size v + length words + 1 ≤ machines.size m → v.left ≤ m.left →
+    v.written ≡ m.written → IsPaid m (machines.entered name words v)
+entered name words m v few left written =
     let long : length (items_of words ++ End ∷ v.items) ≡ length words + suc (length v.items) =
     length-append (items_of words) (End ∷ v.items) ∙ ap (λ n. n + suc (length v.items)) (length-map words (λ w. Read w)) in
-    (omega (arith, long, few, paid.0), omega (arith, few, paid.1))
+    let e : length v.written ≡ length m.written = ap length written in
+    (omega (arith, long, few), left, omega (arith, e))
 
 opened : (t : Token) (body : List Token) (m : Machine) → IsPaid m (machines.opened t body m)
 opened t body m =
+    let v = machines.paid (length body) m in
     if_paid (machines.is_large (length body) (length m.busy) m.left) m (machines.left_alone note.Large t m)
-    (machines.entered t.word (words_of t body) m) (λ large. same m (machines.left_alone note.Large t m) refl refl)
-    (λ fits. entered t.word (words_of t body) m m (rw words_length (room (length body) (length m.busy) m.left fits)) (same m m refl refl))
-  where
-    room : (count names left : ℕ) → machines.is_large count names left ≡ false → count < left
-    room count names left fits = grind (arith, fits)
+    (machines.entered t.word (words_of t body) v) (λ large. stays t m (machines.left_alone note.Large t m) refl (omega arith) refl)
+    (λ fits. let few : length body < m.left = room (length body) (length m.busy) m.left fits in
+    entered t.word (words_of t body) m v (omega (arith, words_length t body, few)) (omega arith) refl)
 
-passed_by : (s : Search) (left : ℕ) (notes : List Note) (m : Machine) → left ≤ m.left → IsPaid m (machines.passed_by s left notes m)
-passed_by s left notes m few =
+-- a body with its arguments: so many of its words are paid
+put_in : (t : Token) (s : Search) (p : Prepared) (count : ℕ) (words : List Word) (m : Machine) → count < m.left →
+    p.left ≤ m.left - (count + 1) → IsPaid m (spec.put_in t s p count words (machines.paid count m))
+put_in t s p count words m some few =
+    let v = machines.paid count m in
+    let failed = machines.failed note.Large t s (record v { left = p.left }) in
+    let passed_by = machines.passed_by s (p.left - (length words - count)) p.notes v in
     let short : length (drop (passed s) m.items) ≡ length m.items - passed s = length-drop (passed s) m.items in
-    (omega (arith, short, few), few)
+    if_paid (nat_lt (p.left + count) (length words)) m failed (machines.entered t.word words passed_by)
+    (λ large. stays t m failed refl (omega (arith, few)) refl)
+    (λ fits. let most : length words ≤ p.left + count = within (p.left + count) (length words) fits in
+    entered t.word words m passed_by (omega (arith, short, most, some, few)) (omega (arith, few)) refl)
 
-put_in : (t : Token) (s : Search) (p : Prepared) (words : List Word) (m : Machine) → p.left ≤ m.left → IsPaid m (spec.put_in t s p words m)
-put_in t s p words m few =
-    if_paid (nat_le p.left (length words)) m (machines.failed note.Large t s m)
-    (machines.entered t.word words (machines.passed_by s p.left p.notes m)) (λ large. same m (machines.failed note.Large t s m) refl refl)
-    (λ fits. entered t.word words m (machines.passed_by s p.left p.notes m) (less p.left (length words) fits)
-    (passed_by s p.left p.notes m few))
+-- arguments are put only in a body for which enough is left
+given_room : (given deepest : Bool) (count names left : ℕ) →
+    (if not given then Some note.Arguments else (if deepest || machines.is_large count names left then Some note.Large else None)) ≡ None →
+    count < left
+given_room given deepest count names left none = grind (arith, none)
 
 module _ (read : Machine → Machine) (pays : (v : Machine) → (read v).left ≤ v.left) where
   chosen : (busy : List ℕ) (name : ℕ) (a : List Word) (p : Prepared) (b : Bool) →
@@ -88,26 +107,30 @@ module _ (read : Machine → Machine) (pays : (v : Machine) → (read v).left �
       )
 
   given_called : (t : Token) (names : List ℕ) (rest : Option ℕ) (body tokens : List Token) (s : Search) (m : Machine) →
-      IsPaid m (spec.given_called read t names rest body tokens s m)
+      length body < m.left → IsPaid m (spec.given_called read t names rest body tokens s (machines.paid (length body) m))
   unfolding spec.given_called
-  given_called t names rest body tokens s m =
-      let p = spec.prepared read (take s.names m.busy) tokens names s.arguments (machines.unprepared m.left) in
-      if_paid (has_sign tokens) m (machines.failed note.Parameters t s m) (spec.put_in t s p (filled p.given rest t 0 body) m)
-      (λ sign. same m (machines.failed note.Parameters t s m) refl refl)
-      (λ none. put_in t s p (filled p.given rest t 0 body) m
-      (prepared (take s.names m.busy) tokens names s.arguments (machines.unprepared m.left)))
+  given_called t names rest body tokens s m some =
+      let v = machines.paid (length body) m in
+      let p = spec.prepared read (take s.names v.busy) tokens names s.arguments (machines.unprepared v.left) in
+      let words = filled p.given rest t 0 body in
+      if_paid (has_sign tokens) m (machines.failed note.Parameters t s v) (spec.put_in t s p (length body) words v)
+      (λ sign. stays t m (machines.failed note.Parameters t s v) refl (omega arith) refl)
+      (λ none. put_in t s p (length body) words m some
+      (prepared (take s.names v.busy) tokens names s.arguments (machines.unprepared v.left)))
 
   called_by : (t : Token) (names : List ℕ) (rest : Option ℕ) (body : List Token) (s : Search) (why : Option NoteKind) (m : Machine) →
-      IsPaid m (spec.called_by read t names rest body s why m)
-  called_by t names rest body s (Some kind) m = same m (machines.failed kind t s m) refl refl
-  called_by t names rest body s None m = given_called t names rest body (apart rest 0 body) s m
+      (why ≡ None → length body < m.left) → IsPaid m (spec.called_by read t names rest body s why m)
+  called_by t names rest body s (Some kind) m some = stays t m (machines.failed kind t s m) refl (omega arith) refl
+  called_by t names rest body s None m some = given_called t names rest body (apart rest 0 body) s m (some refl)
 
   called_at : (depth : ℕ) (t : Token) (names : List ℕ) (rest : Option ℕ) (body : List Token) (s : Search) (stage : Stage) (m : Machine) →
       IsPaid m (spec.called_at depth read t names rest body s stage m)
-  called_at depth t names rest body s Before m = same m (machines.wrote (plain t) m) refl refl
-  called_at depth t names rest body s Absent m = same m (machines.wrote (plain t) m) refl refl
-  called_at depth t names rest body s (Within more) m = same m (machines.failed (unclosed s) t s m) refl refl
-  called_at depth t names rest body s Closed m = called_by t names rest body s (spec.refusal depth names rest body s m.left) m
+  called_at depth t names rest body s Before m = writes (plain t) m (machines.wrote (plain t) m) refl (omega arith) refl
+  called_at depth t names rest body s Absent m = writes (plain t) m (machines.wrote (plain t) m) refl (omega arith) refl
+  called_at depth t names rest body s (Within more) m = stays t m (machines.failed (unclosed s) t s m) refl (omega arith) refl
+  called_at depth t names rest body s Closed m =
+      called_by t names rest body s (spec.refusal depth names rest body s m.left) m
+      (given_room (are_given names rest s.arguments) (depth == 0) (length body) s.names m.left)
 
   called : (depth : ℕ) (source : List Token) (t : Token) (names : List ℕ) (rest : Option ℕ) (body : List Token) (m : Machine) →
       IsPaid m (spec.called depth read source t names rest body m)
@@ -115,19 +138,21 @@ module _ (read : Machine → Machine) (pays : (v : Machine) → (read v).left �
   called depth source t names rest body m =
       let s = machines.searched source (commas_of names rest) m in
       if_paid (nat_lt m.after m.quiet) m (spec.called_at depth read t names rest body s s.stage m) (machines.wrote (plain t) m)
-      (λ loud. called_at depth t names rest body s s.stage m) (λ quiet. same m (machines.wrote (plain t) m) refl refl)
+      (λ loud. called_at depth t names rest body s s.stage m)
+      (λ quiet. writes (plain t) m (machines.wrote (plain t) m) refl (omega arith) refl)
 
   expanded : (depth : ℕ) (source : List Token) (w : Word) (what : Option Macro) (m : Machine) →
       IsPaid m (spec.expanded depth read source w what m)
   expanded depth source w (Some (Plain body)) m = opened w.token body m
   expanded depth source w (Some (WithParameters names rest body)) m = called depth source w.token names rest body m
-  expanded depth source w (Some Undecided) m = same m (machines.left_alone note.Undecided w.token m) refl refl
-  expanded depth source w (Some Undefined) m = same m (machines.wrote (colored m.busy w) m) refl refl
-  expanded depth source w None m = same m (machines.wrote (colored m.busy w) m) refl refl
+  expanded depth source w (Some Undecided) m = stays w.token m (machines.left_alone note.Undecided w.token m) refl (omega arith) refl
+  expanded depth source w (Some Undefined) m =
+      writes (colored m.busy w) m (machines.wrote (colored m.busy w) m) refl (omega arith) refl
+  expanded depth source w None m = writes (colored m.busy w) m (machines.wrote (colored m.busy w) m) refl (omega arith) refl
 
   stepped : (kept : List Bool) (macros : Known) (depth : ℕ) (source : List Token) (x : Item) (m : Machine) →
       IsPaid m (spec.stepped kept macros depth read source x m)
-  stepped kept macros depth source End m = same m (machines.ended m) refl refl
+  stepped kept macros depth source End m = (omega arith, omega arith, omega arith)
   stepped kept macros depth source (Read w) m = expanded depth source w (spec.found kept macros m.busy w) m
 
 -- ---- turns
@@ -146,6 +171,21 @@ module _ (step : Item → Machine → Machine) (pays : (x : Item) (m : Machine) 
   turns_pay (suc n) m =
       let first = turn_pays m.items m in omega (arith, first, turns_pay n (spec.turn_by step m.items m))
 
+  -- a turn writes no more than it takes away
+  turn_writes : (xs : List Item) (m : Machine) → m.items ≡ xs →
+      length (spec.turn_by step xs m).written + machines.size (spec.turn_by step xs m) ≤ length m.written + machines.size m
+  turn_writes [] m at = omega arith
+  turn_writes (x ∷ xs) m at =
+      let long : length m.items ≡ suc (length xs) = ap length at in
+      let paid = pays x (record m { items = xs }) in
+      omega (arith, long, paid.0, paid.2)
+
+  turns_write : (n : ℕ) (m : Machine) →
+      length (spec.turns step n m).written + machines.size (spec.turns step n m) ≤ length m.written + machines.size m
+  turns_write zero m = omega arith
+  turns_write (suc n) m =
+      let first = turn_writes m.items m refl in omega (arith, first, turns_write n (spec.turn_by step m.items m))
+
   turn_ends : (n : ℕ) → ((v : Machine) → machines.size v ≤ n → (spec.turns step n v).items ≡ []) → (xs : List Item) (m : Machine) →
       m.items ≡ xs → machines.size m ≤ suc n → (spec.turns step n (spec.turn_by step xs m)).items ≡ []
   turn_ends n end [] m at few = ap (λ v. v.items) (turns_over step n m at) ∙ at
@@ -159,7 +199,7 @@ module _ (step : Item → Machine → Machine) (pays : (x : Item) (m : Machine) 
   turns_end (suc n) m few = turn_ends n (turns_end n) m.items m refl few
 
 module _ (kept : List Bool) (macros : Known) where
-  read_pays : (depth : ℕ) (source : List Token) (m : Machine) → (spec.read kept macros depth source m).left ≤ m.left
+  pub read_pays : (depth : ℕ) (source : List Token) (m : Machine) → (spec.read kept macros depth source m).left ≤ m.left
   unfolding spec.read
   read_pays zero source m =
       turns_pay (spec.stepped kept macros zero (λ v. v) source)
@@ -171,6 +211,15 @@ module _ (kept : List Bool) (macros : Known) where
   again_pays : (depth : ℕ) (m : Machine) → (spec.again kept macros depth m).left ≤ m.left
   again_pays zero m = omega arith
   again_pays (suc depth) m = read_pays depth [] m
+
+  -- what is written is read before, or paid
+  pub read_writes : (depth : ℕ) (source : List Token) (m : Machine) →
+      length (spec.read kept macros depth source m).written + machines.size (spec.read kept macros depth source m)
+      ≤ length m.written + machines.size m
+  read_writes depth source m =
+      subst (λ v. length v.written + machines.size v ≤ length m.written + machines.size m) (sym (read_turns kept macros depth source m))
+      (turns_write (spec.stepped kept macros depth (spec.again kept macros depth) source)
+      (stepped (spec.again kept macros depth) (again_pays depth) kept macros depth source) (machines.size m) m)
 
   -- all items are read
   pub read_ends : (depth : ℕ) (source : List Token) (m : Machine) → (spec.read kept macros depth source m).items ≡ []

@@ -90,7 +90,7 @@ module _ (kept : List Bool) (macros : Known) where
       (p : Prepared) (work : List ℕ) (arguments : List (List Word)) → has_sign tokens ≡ false → 0 < depth →
       work ≡ take s.names m.busy → arguments ≡ s.arguments →
       p ≡ spec.prepared (read kept macros (depth - 1) []) work tokens names arguments (unprepared m.left) →
-      spec.put_in t s p (filled p.given rest t 0 body) m
+      spec.put_in t s p (length body) (filled p.given rest t 0 body) m
       ≡ spec.given_called (again kept macros depth) t names rest body tokens s m
   unfolding spec.given_called
   call_done depth t names rest body tokens s m p work arguments none deep work_is arguments_are is =
@@ -101,7 +101,7 @@ module _ (kept : List Bool) (macros : Known) where
       is ∙ (ap (λ b. spec.prepared inner b tokens names arguments (unprepared m.left)) work_is
       ∙ (ap (λ a. spec.prepared inner first tokens names a (unprepared m.left)) arguments_are
       ∙ ap (λ r. spec.prepared r first tokens names s.arguments (unprepared m.left)) (sym (again_is depth deep)))) in
-      rw none (ap (λ q. spec.put_in t s q (filled q.given rest t 0 body) m) made)
+      rw none (ap (λ q. spec.put_in t s q (length body) (filled q.given rest t 0 body) m) made)
 
 -- ---- searches
 

@@ -22,7 +22,7 @@ has_name name body = list_any (λ b. same_kind b.kind k.Name && nat_eq b.word na
 abbrev pub has_sign : List Token → Bool
 has_sign body = list_any (λ b. same_kind b.kind k.Hash || same_kind b.kind k.HashHash) body
 
--- `, ## __VA_ARGS__`: the comma goes where nothing is given for the name
+-- `, ## __VA_ARGS__`, or the name that stands for `...`: the comma goes where nothing is given for the name
 abbrev pub is_joint : Option ℕ → List Token → Bool
 is_joint (Some rest) (c ∷ h ∷ v ∷ i) =
     same_kind c.kind k.Comma && same_kind h.kind k.HashHash && same_kind v.kind k.Name && nat_eq v.word rest
@@ -76,5 +76,5 @@ filled given rest at joint (b ∷ body) =
 
 -- the code's answer: those words, or none where they are too many
 abbrev pub IsFilled : List Word → ℕ → Option (List Word) → Type 0
-IsFilled words left None = left ≤ length words
-IsFilled words left (Some found) = (found ≡ words) × (length words < left)
+IsFilled words limit None = limit ≤ length words
+IsFilled words limit (Some found) = (found ≡ words) × (length words < limit)

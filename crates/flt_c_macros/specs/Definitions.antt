@@ -1,5 +1,6 @@
 -- Lines that define macros, and lines that take them back.
-use Rattle.std.specs.Prelude.{◌≡◌, ◌&&◌, ℕ, Bool, true, false, if◌then◌else◌, List, [], ◌∷◌, ◌++◌, Option, Some, None, codes}
+use Rattle.std.specs.Prelude.{◌≡◌, ◌&&◌, ℕ, nat_lt, Bool, true, false, if◌then◌else◌, List, [], ◌∷◌, ◌++◌, length, Option, Some, None}
+use Rattle.std.specs.Prelude.{codes}
 use Rattle.flt_c_tokens.specs.declared.token.Kind.{Kind}
 use Rattle.flt_c_tokens.specs.declared.token.Kind.TheVariants as k
 use Rattle.flt_c_tokens.specs.declared.token.Token.{Token}
@@ -46,62 +47,59 @@ is_keyword k.Cast = true
 is_keyword k.CPlusPlus = true
 is_keyword _ = false
 
--- parameters, whether `...` follows them, and the body
+-- parameters, the last of them again if it stands for `...`, and the body
 abbrev pub Parts : Type 0
-Parts = List ℕ × Bool × List Token
+Parts = List ℕ × Option ℕ × List Token
 
--- ")" body
-abbrev pub behind_ellipsis : List Token → Option (List Token)
-behind_ellipsis [] = None
-behind_ellipsis (t ∷ i) = if same_kind t.kind k.CloseParen then Some i else None
-
-abbrev pub with_ellipsis : List ℕ → Option (List Token) → Option Parts
-with_ellipsis found None = None
-with_ellipsis found (Some body) = Some (found, true, body)
+-- ")" body, behind the "..." for which a name stands
+abbrev pub with_rest : ℕ → List ℕ → List Token → Option Parts
+with_rest rest found [] = None
+with_rest rest found (t ∷ i) = if same_kind t.kind k.CloseParen then Some (found ++ rest ∷ [], Some rest, i) else None
 
 abbrev mutual
   -- NAME behind_parameter | "..." ")" body
-  pub parameter : List ℕ → List Token → Option Parts
-  parameter found [] = None
-  parameter found (t ∷ i) =
-      if same_kind t.kind k.Ellipsis then with_ellipsis found (behind_ellipsis i)
-      else (if same_kind t.kind k.Name then behind_parameter (found ++ t.word ∷ []) i else None)
+  pub parameter : ℕ → List ℕ → List Token → Option Parts
+  parameter rest found [] = None
+  parameter rest found (t ∷ i) =
+      if same_kind t.kind k.Ellipsis then with_rest rest found i
+      else (if same_kind t.kind k.Name then behind_parameter rest found t.word i else None)
 
-  -- ")" body | "," parameter
-  pub behind_parameter : List ℕ → List Token → Option Parts
-  behind_parameter found [] = None
-  behind_parameter found (t ∷ i) =
-      if same_kind t.kind k.CloseParen then Some (found, false, i)
-      else (if same_kind t.kind k.Comma then parameter found i else None)
+  -- "..." ")" body | ")" body | "," parameter; a name before "..." stands for it, as GNU C has it
+  pub behind_parameter : ℕ → List ℕ → ℕ → List Token → Option Parts
+  behind_parameter rest found name [] = None
+  behind_parameter rest found name (t ∷ i) =
+      if same_kind t.kind k.Ellipsis then with_rest name found i
+      else (if same_kind t.kind k.CloseParen then Some (found ++ name ∷ [], None, i)
+      else (if same_kind t.kind k.Comma then parameter rest (found ++ name ∷ []) i else None))
 
 -- ")" body | parameter
-abbrev pub parameters : List Token → Option Parts
-parameters [] = None
-parameters (t ∷ i) = if same_kind t.kind k.CloseParen then Some ([], false, i) else parameter [] (t ∷ i)
+abbrev pub parameters : ℕ → List Token → Option Parts
+parameters rest [] = None
+parameters rest (t ∷ i) = if same_kind t.kind k.CloseParen then Some ([], None, i) else parameter rest [] (t ∷ i)
 
 -- the code's head of a macro
 abbrev pub IsHead : Option Parts → Option Head → Type 0
 IsHead parts None = parts ≡ None
-IsHead parts (Some head) = parts ≡ Some (head.parameters, head.is_open, head.body.now)
+IsHead parts (Some head) = parts ≡ Some (head.parameters, head.rest, head.body.now)
 
--- The name by which a body has the arguments behind the named ones: the number of `__VA_ARGS__`. If it has none, no body has the name: then
--- it is 0, the number of a word of C.
+-- The name by which a body has the arguments behind the named ones, if none stands before `...`: the number of `__VA_ARGS__`. If it has
+-- none, no body has the name: then it is 0, the number of a word of C.
 abbrev pub rest_name : Texts → ℕ
 rest_name texts = let name = codes "__VA_ARGS__" in if has_text texts name then number_of texts name else 0
 
--- these arguments are those of one more parameter
-abbrev pub macro_with : ℕ → Parts → Macro
-macro_with rest parts =
-    if parts.1 then WithParameters (parts.0 ++ rest ∷ []) (Some rest) parts.2 else WithParameters parts.0 None parts.2
+-- no more parameters are taken than the C standard wants, with that for `...`
+abbrev pub macro_with : Parts → Option Macro
+macro_with parts = if nat_lt 127 (length parts.0) then None else Some (WithParameters parts.0 parts.1 parts.2)
 
-abbrev pub macro_by : Texts → Option Parts → Option Macro
-macro_by texts None = None
-macro_by texts (Some parts) = Some (macro_with (rest_name texts) parts)
+abbrev pub macro_by : Option Parts → Option Macro
+macro_by None = None
+macro_by (Some parts) = macro_with parts
 
 -- what stands behind a macro's name: a bracket that touches the name opens its parameters
 abbrev pub macro_from : Texts → List Token → Option Macro
 macro_from texts [] = Some (Plain [])
-macro_from texts (t ∷ i) = if t.is_glued && same_kind t.kind k.OpenParen then macro_by texts (parameters i) else Some (Plain (t ∷ i))
+macro_from texts (t ∷ i) =
+    if t.is_glued && same_kind t.kind k.OpenParen then macro_by (parameters (rest_name texts) i) else Some (Plain (t ∷ i))
 
 -- ---- the lines
 

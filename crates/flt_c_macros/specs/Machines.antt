@@ -16,10 +16,11 @@ use Rattle.flt_c_macros.specs.Arguments.{begun, looked, passed}
 use Rattle.flt_c_macros.specs.Bodies.{words_of}
 use Rattle.flt_c_macros.specs.Items.{items_of, plain, text_items}
 
--- a use at a token of text, before it is read; brackets are looked for where fewer tokens of the text are left than `quiet`
-abbrev pub fresh : Token → ℕ → ℕ → Machine
-fresh t after quiet =
-    record { items = Read (plain t) ∷ []; busy = []; left = 4096; after = after; quiet = quiet; written = []; notes = [] }
+-- a use at a token of text, before it is read, that may add so many items; brackets are looked for where fewer tokens of the text are left
+-- than `quiet`
+abbrev pub fresh : Token → ℕ → ℕ → ℕ → Machine
+fresh t left after quiet =
+    record { items = Read (plain t) ∷ []; busy = []; left = left; after = after; quiet = quiet; written = []; notes = [] }
 
 -- the last tokens of a text, so many of them
 abbrev pub last : ℕ → List Token → List Token
@@ -49,15 +50,19 @@ ended m = record m { busy = take (length m.busy - 1) m.busy }
 abbrev pub is_large : ℕ → ℕ → ℕ → Bool
 is_large count names left = nat_le left count || nat_le 16 names
 
+-- so many words and an end are paid
+abbrev pub paid : ℕ → Machine → Machine
+paid count m = record m { left = m.left - (count + 1) }
+
 -- the words of a body, and its end, are to be read
 abbrev pub entered : ℕ → List Word → Machine → Machine
-entered name words m =
-    record m { items = items_of words ++ End ∷ m.items; busy = m.busy ++ name ∷ []; left = m.left - (length words + 1) }
+entered name words m = record m { items = items_of words ++ End ∷ m.items; busy = m.busy ++ name ∷ [] }
 
 -- a name of a macro without parameters
 abbrev pub opened : Token → List Token → Machine → Machine
 opened t body m =
-    if is_large (length body) (length m.busy) m.left then left_alone note.Large t m else entered t.word (words_of t body) m
+    if is_large (length body) (length m.busy) m.left then left_alone note.Large t m
+    else entered t.word (words_of t body) (paid (length body) m)
 
 -- ---- macros with parameters
 

@@ -2,7 +2,7 @@
 --
 -- Each token of text that names a macro begins a use. A machine reads it, and puts the macro's body in its place, which is read again. It
 -- goes on in the text where a body ends with the name of a macro with parameters, whose brackets follow in the text.
-use Rattle.std.specs.Prelude.{ℕ, zero, suc, ◌==◌, nat_lt, nat_le, Bool, false, not, ◌&&◌, ◌||◌, if◌then◌else◌}
+use Rattle.std.specs.Prelude.{ℕ, zero, suc, ◌+◌, ◌-◌, ◌==◌, nat_lt, nat_le, Bool, false, not, ◌&&◌, ◌||◌, if◌then◌else◌}
 use Rattle.std.specs.Prelude.{List, [], ◌∷◌, length, slice_index_or, take, Option, Some, None}
 use Rattle.std.specs.Option.{is_some}
 use Rattle.flt_c_tokens.specs.declared.token.Kind.TheVariants as k
@@ -26,8 +26,8 @@ use Rattle.flt_c_macros.specs.Arguments.{are_given, commas_of, unclosed}
 use Rattle.flt_c_macros.specs.Bodies.{apart, filled, has_name, has_sign}
 use Rattle.flt_c_macros.specs.Items.{colored, is_busy, plain}
 use Rattle.flt_c_macros.specs.Kinds.{same_kind}
-use Rattle.flt_c_macros.specs.Machines.{alone, ended, entered, failed, fresh, is_large, left_alone, opened, passed_by, searched, size}
-use Rattle.flt_c_macros.specs.Machines.{unprepared, with_argument, with_unread, wrote}
+use Rattle.flt_c_macros.specs.Machines.{alone, ended, entered, failed, fresh, is_large, left_alone, opened, paid, passed_by, searched}
+use Rattle.flt_c_macros.specs.Machines.{size, unprepared, with_argument, with_unread, wrote}
 use Rattle.flt_c_macros.specs.Macros.{Known, macro_of}
 use Rattle.flt_c_macros.specs.Notes.{is_told}
 use Rattle.flt_c_macros.specs.States as states
@@ -60,21 +60,24 @@ prepared read busy tokens (name ∷ names) (a ∷ arguments) p =
     prepared read busy tokens names arguments
     (if has_name name tokens then with_argument name a (read (alone busy a p.left)) p else with_unread name a p)
 
--- the body with its arguments is to be read
-abbrev pub put_in : Token → Search → Prepared → List Word → Machine → Machine
-put_in t s p words m =
-    if nat_le p.left (length words) then failed note.Large t s m else entered t.word words (passed_by s p.left p.notes m)
+-- The body with its arguments is to be read. So many words and the end are paid. Where the others are too many, what it took to read the
+-- arguments is paid all the same.
+abbrev pub put_in : Token → Search → Prepared → ℕ → List Word → Machine → Machine
+put_in t s p count words m =
+    if nat_lt (p.left + count) (length words) then failed note.Large t s (record m { left = p.left })
+    else entered t.word words (passed_by s (p.left - (length words - count)) p.notes m)
 
 -- a use whose arguments are given; these tokens of the body are in no joint
 unfoldable pub given_called : (Machine → Machine) → Token → List ℕ → Option ℕ → List Token → List Token → Search → Machine → Machine
 given_called read t names rest body tokens s m =
     if has_sign tokens then failed note.Parameters t s m
     else (let p = prepared read (take s.names m.busy) tokens names s.arguments (unprepared m.left) in
-    put_in t s p (filled p.given rest t 0 body) m)
+    put_in t s p (length body) (filled p.given rest t 0 body) m)
 
+-- a body is paid before anything is done with it
 abbrev pub called_by : (Machine → Machine) → Token → List ℕ → Option ℕ → List Token → Search → Option NoteKind → Machine → Machine
 called_by read t names rest body s (Some kind) m = failed kind t s m
-called_by read t names rest body s None m = given_called read t names rest body (apart rest 0 body) s m
+called_by read t names rest body s None m = given_called read t names rest body (apart rest 0 body) s (paid (length body) m)
 
 -- a name without brackets is no use
 abbrev pub called_at : ℕ → (Machine → Machine) → Token → List ℕ → Option ℕ → List Token → Search → Stage → Machine → Machine
@@ -127,27 +130,27 @@ module _ (kept : List Bool) (macros : Known) where
 -- ---- text
 
 -- a use at a token of text, which some tokens follow
-abbrev pub use_read : List Bool → Known → Token → List Token → ℕ → Machine
-use_read kept macros t i quiet = read kept macros 16 i (fresh t (length i) quiet)
+abbrev pub use_read : List Bool → Token → List Token → ℕ → State → Machine
+use_read kept t i quiet s = read kept s.macros 16 i (fresh t (states.allowed s) (length i) quiet)
 
 abbrev pub noted_behind : Option Note → List Note → State → State
 noted_behind before [] s = s
-noted_behind before (n ∷ ns) s = noted_behind (Some n) ns (if is_told n before then s else states.noted n.kind n.at s)
+noted_behind before (n ∷ ns) s = noted_behind (Some n) ns (if is_told n before then s else states.told n s)
 
 abbrev pub with_words : List Word → State → State
 with_words [] s = s
 with_words (w ∷ ws) s = with_words ws (states.pushed w.token s)
 
--- what a use was expanded to, and its notes
+-- what a use was expanded to, what it added, and its notes
 abbrev pub used : Machine → State → State
-used m s = noted_behind None m.notes (with_words m.written s)
+used m s = noted_behind None m.notes (states.paid (states.allowed s - m.left) (with_words m.written s))
 
 -- A token of text, which some tokens follow, unless it was an argument: where the text is read on, and what was read.
 abbrev pub token_read : List Bool → Token → List Token → Place → State → Place × State
 token_read kept t i p s =
     if nat_le p.after (length i) then (p, s)
     else (if is_some (found kept s.macros [] (plain t))
-    then (let m = use_read kept s.macros t i p.quiet in (record { after = m.after; quiet = m.quiet }, used m s))
+    then (let m = use_read kept t i p.quiet s in (record { after = m.after; quiet = m.quiet }, used m s))
     else (record { after = length i; quiet = p.quiet }, states.pushed t s))
 
 -- text, from a place on

@@ -54,7 +54,7 @@ pub fn has_sign(body: &[Token]) -> bool
     false
 }
 
-/// Whether a body begins with `, ## __VA_ARGS__`.
+/// Whether a body begins with `, ## __VA_ARGS__`, or with the name that stands for `...`.
 fn is_joint(rest: Option<u32>, body: &[Token]) -> bool
     ensures { result ≡ spec.is_joint rest body.now }
 {
@@ -187,9 +187,9 @@ pub fn fill(
     rest: Option<u32>,
     at: Token,
     body: &[Token],
-    left: u32,
+    limit: usize,
 ) -> Result<Option<Items<Word>>, AllocError>
-    ensures { IfOk result (λ found. spec.IsFilled (spec.filled given.now rest at 0 body.now) left found) }
+    ensures { IfOk result (λ found. spec.IsFilled (spec.filled given.now rest at 0 body.now) limit found) }
 {
     let mut words = Items::new(alloc);
     let mut joint = 0;
@@ -197,12 +197,12 @@ pub fn fill(
     while let [token, behind @ ..] = tokens {
         put_at(given, rest, at, joint, *token, tokens, &mut words)?;
         joint = joint_after(rest, joint, tokens);
-        if words.len() >= left as usize {
+        if words.len() >= limit {
             return Ok(None);
         }
         tokens = behind;
     }
-    if words.len() >= left as usize {
+    if words.len() >= limit {
         return Ok(None);
     }
     Ok(Some(words))

@@ -1,6 +1,6 @@
 //! Lines that define macros, and lines that take them back.
 
-ghost use Rattle.std.specs.Prelude.{◌≡◌, OnOk, IfOk, option_map};
+ghost use Rattle.std.specs.Prelude.{◌≡◌, OnOk, IfOk};
 ghost use Rattle.flt_c_macros.specs.Definitions as spec;
 
 use crate::kind::same_kind;
@@ -11,11 +11,14 @@ use flt_c_tokens::{Kind, Spellings, Token};
 use sqlite_items::Items;
 use std::alloc::{AllocError, Global};
 
-/// The parameters of a macro, and its body.
+/// How many parameters a macro may have, with that for `...`: as many as the C standard wants.
+const MAX_PARAMETERS: usize = 127;
+
+/// The parameters of a macro, the last of them again if it stands for `...`, and its body.
 #[derive(Drop)]
 struct Head<'a> {
     parameters: Items<u32>,
-    is_open: bool,
+    rest: Option<u32>,
     body: &'a [Token],
 }
 
@@ -52,62 +55,76 @@ fn is_keyword(kind: Kind) -> bool
     )
 }
 
-/// The body, after the bracket that closes the parameters after `...`.
-fn behind_ellipsis(line: &[Token]) -> Option<&[Token]>
-    ensures { option_map (λ body. body.now) result ≡ spec.behind_ellipsis line.now }
+/// The parameters of a macro after its `...`, with the name of its arguments, and its body.
+fn with_rest<'a>(
+    parameters: Items<u32>,
+    rest: u32,
+    line: &'a [Token],
+) -> Result<Option<Head<'a>>, AllocError>
+    ensures { IfOk result (λ head. spec.IsHead (spec.with_rest rest parameters line.now) head) }
 {
+    let mut found = parameters;
     match line {
-        [token, body @ ..] if same_kind(token.kind, Kind::CloseParen) => Some(body),
-        _ => None,
+        [token, body @ ..] if same_kind(token.kind, Kind::CloseParen) => {
+            found.push(rest)?;
+            Ok(Some(Head {
+                parameters: found,
+                rest: Some(rest),
+                body,
+            }))
+        }
+        _ => Ok(None),
     }
 }
 
-/// The parameters of a macro, whose bracket is open, and its body.
-fn parameters<'a>(alloc: Global, line: &'a [Token]) -> Result<Option<Head<'a>>, AllocError>
-    ensures { IfOk result (λ head. spec.IsHead (spec.parameters line.now) head) }
+/// The parameters of a macro, whose bracket is open, and its body. The arguments for `...` have the name before it, or else `rest`.
+fn parameters<'a>(
+    alloc: Global,
+    rest: u32,
+    line: &'a [Token],
+) -> Result<Option<Head<'a>>, AllocError>
+    ensures { IfOk result (λ head. spec.IsHead (spec.parameters rest line.now) head) }
 {
     let mut found = Items::new(alloc);
-    let mut rest = line;
-    if let [token, body @ ..] = rest {
+    let mut left = line;
+    if let [token, body @ ..] = left {
         if same_kind(token.kind, Kind::CloseParen) {
             return Ok(Some(Head {
                 parameters: found,
-                is_open: false,
+                rest: None,
                 body,
             }));
         }
     }
-    while let [token, behind @ ..] = rest {
+    while let [token, behind @ ..] = left {
         if same_kind(token.kind, Kind::Ellipsis) {
-            return match behind_ellipsis(behind) {
-                None => Ok(None),
-                Some(body) => Ok(Some(Head {
-                    parameters: found,
-                    is_open: true,
-                    body,
-                })),
-            };
+            return with_rest(found, rest, behind);
         }
         if !same_kind(token.kind, Kind::Name) {
             return Ok(None);
+        }
+        if let [sign, after @ ..] = behind {
+            if same_kind(sign.kind, Kind::Ellipsis) {
+                return with_rest(found, token.word, after);
+            }
         }
         found.push(token.word)?;
         match behind {
             [sign, body @ ..] if same_kind(sign.kind, Kind::CloseParen) => {
                 return Ok(Some(Head {
                     parameters: found,
-                    is_open: false,
+                    rest: None,
                     body,
                 }));
             }
-            [sign, after @ ..] if same_kind(sign.kind, Kind::Comma) => rest = after,
+            [sign, after @ ..] if same_kind(sign.kind, Kind::Comma) => left = after,
             _ => return Ok(None),
         }
     }
     Ok(None)
 }
 
-/// The name by which a body has the arguments after the named ones.
+/// The name by which a body has the arguments after the named ones, if none is before `...`.
 fn rest_name(spellings: &Spellings) -> u32
     ensures { result ≡ spec.rest_name spellings.now }
 {
@@ -117,27 +134,23 @@ fn rest_name(spellings: &Spellings) -> u32
     }
 }
 
-/// A macro with parameters.
-fn macro_with(
-    alloc: Global,
-    rest: u32,
-    parameters: &[u32],
-    is_open: bool,
-    body: &[Token],
-) -> Result<Macro, AllocError>
-    ensures { IfOk result (λ found. found ≡ spec.macro_with rest (parameters.now, is_open, body.now)) }
+/// A macro with parameters; `None` where these are too many.
+fn macro_with(alloc: Global, head: Head<'_>) -> Result<Option<Macro>, AllocError>
+    ensures { IfOk result (λ found. found ≡ spec.macro_with (head.entry.parameters, head.entry.rest, head.entry.body.now)) }
 {
-    let body = Items::from_slice(alloc, body)?;
-    let mut names = Items::from_slice(alloc, parameters)?;
-    if is_open {
-        names.push(rest)?;
-        Ok(Macro::WithParameters(names, Some(rest), body))
-    } else {
-        Ok(Macro::WithParameters(names, None, body))
+    let Head {
+        parameters,
+        rest,
+        body,
+    } = head;
+    if MAX_PARAMETERS < parameters.len() {
+        return Ok(None);
     }
+    let body = Items::from_slice(alloc, body)?;
+    Ok(Some(Macro::WithParameters(parameters, rest, body)))
 }
 
-/// A macro, by the line after its name; `None` where the parameters are malformed.
+/// A macro, by the line after its name; `None` where the parameters are malformed, or too many.
 fn macro_from(
     alloc: Global,
     spellings: &Spellings,
@@ -147,14 +160,9 @@ fn macro_from(
 {
     match line {
         [token, rest @ ..] if token.is_glued && same_kind(token.kind, Kind::OpenParen) => {
-            match parameters(alloc, rest)? {
+            match parameters(alloc, rest_name(spellings), rest)? {
                 None => Ok(None),
-                Some(head) => {
-                    let name = rest_name(spellings);
-                    let names = head.parameters.as_slice();
-                    let found = macro_with(alloc, name, names, head.is_open, head.body)?;
-                    Ok(Some(found))
-                }
+                Some(head) => macro_with(alloc, head),
             }
         }
         _ => Ok(Some(Macro::Plain(Items::from_slice(alloc, line)?))),

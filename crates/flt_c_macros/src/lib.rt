@@ -30,4 +30,5 @@ mod whole;
 pub use error::MacroError;
 pub use kind::spelling;
 pub use note::{Note, NoteKind};
+pub use state::MAX_ADDED;
 pub use whole::{Expansion, expanded};

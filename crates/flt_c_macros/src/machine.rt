@@ -14,9 +14,6 @@ use std::alloc::{AllocError, Global};
 /// How many bodies may be read within each other.
 const MAX_NAMES: usize = 16;
 
-/// How many words of bodies, and ends of bodies, a use may read.
-const MAX_ITEMS: u32 = 4096;
-
 /// The items of a use that are still read, and the words to which it was expanded so far.
 #[derive(Drop)]
 pub struct Machine {
@@ -109,21 +106,22 @@ impl Prepared {
 }
 
 impl Machine {
-    /// A use at a token of text.
+    /// A use at a token of text, which may put in so many items.
     pub fn fresh(
         alloc: Global,
         token: Token,
+        left: u32,
         after: usize,
         quiet: usize,
     ) -> Result<Machine, AllocError>
-        ensures { IfOk result (λ m. m ≡ spec.fresh token after quiet) }
+        ensures { IfOk result (λ m. m ≡ spec.fresh token left after quiet) }
     {
         let mut items = Pending::new(alloc);
         items.push(Item::Read(plain(token)))?;
         Ok(Machine {
             items,
             busy: Items::new(alloc),
-            left: MAX_ITEMS,
+            left,
             after,
             quiet,
             written: Items::new(alloc),
@@ -200,26 +198,32 @@ impl Machine {
         self.busy.pop();
     }
 
-    /// The words of a body, and its end, will be read.
-    pub fn enter(&mut self, name: u32, words: &[Word]) -> Result<(), AllocError>
-        requires few { length words.now < self.old.left }
-        ensures { OnOk result (self.new ≡ spec.entered name words.now self.old) }
+    /// Pays so many words and an end.
+    pub fn pay(&mut self, count: usize)
+        requires few { count < self.old.left }
+        ensures { self.new ≡ spec.paid count self.old }
     {
         let left = self.left;
-        self.left = left - (words.len() as u32 + 1);
+        self.left = left - (count as u32 + 1);
+    }
+
+    /// The words of a body, and its end, will be read.
+    pub fn enter(&mut self, name: u32, words: &[Word]) -> Result<(), AllocError>
+        ensures { OnOk result (self.new ≡ spec.entered name words.now self.old) }
+    {
         self.items.push(Item::End)?;
         self.items.put(words)?;
         self.busy.push(name)
     }
 
     /// A name of a macro without parameters.
-    #[tactic(auto, using(crate::proofs::Uses::words_length))]
     pub fn open(&mut self, alloc: Global, token: Token, body: &[Token]) -> Result<(), AllocError>
         ensures { OnOk result (self.new ≡ spec.opened token body.now self.old) }
     {
         if is_large(body.len(), self.busy.len(), self.left) {
             return self.leave_alone(NoteKind::Large, token);
         }
+        self.pay(body.len());
         let words = words_of(alloc, token, body)?;
         self.enter(token.word, words.as_slice())
     }

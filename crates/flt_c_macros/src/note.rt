@@ -16,8 +16,11 @@ pub enum NoteKind {
     OpenGroup,
     /// An `#elif`, `#else` or `#endif` without an `#if`.
     NoGroup,
+    /// A line that includes a header without tokens, or one that would be within 64 others. It is passed over.
+    Header,
     /// A use of a macro that would take too much: a body within 16 others, more than 4,096 tokens and ends of bodies for one token of text,
-    /// an argument within 16 others, or more than 4,096 tokens of arguments. The name stays, and its arguments.
+    /// more than `MAX_ADDED` for a file, an argument within 16 others, or more than 4,096 tokens of arguments. The name stays, and its
+    /// arguments. Once fewer than 4,096 may be added to the file, one name is noted, and later ones aren't.
     Large,
     /// A use of a macro with parameters in whose body is a `#` or `##`, but for `, ## __VA_ARGS__`. The name stays, and its arguments.
     Parameters,
@@ -37,8 +40,9 @@ pub struct Note {
     pub at: Token,
 }
 
+/// Whether two notes have the same reason.
 #[tactic(auto, unfolding(crate::specs::Notes::same_reason))]
-fn same_reason(a: NoteKind, b: NoteKind) -> bool
+pub fn same_reason(a: NoteKind, b: NoteKind) -> bool
     ensures { result ≡ spec.same_reason a b }
 {
     a == b

@@ -7,10 +7,16 @@ ghost use Rattle.flt_c_macros.specs.States as spec;
 use crate::error::MacroError;
 use crate::groups::{Group, Groups};
 use crate::macros::Macros;
-use crate::note::{Note, NoteKind};
+use crate::note::{Note, NoteKind, same_reason};
 use flt_c_tokens::{Kind, Spellings, Token};
 use sqlite_items::Items;
 use std::alloc::{AllocError, Global};
+
+/// How many tokens, and ends of bodies, macros may add to a file. Where a use would add more, its name stays.
+pub const MAX_ADDED: u32 = 4_194_304;
+
+/// How many of them a use may add.
+const MAX_ITEMS: u32 = 4096;
 
 #[derive(Drop)]
 pub struct State {
@@ -19,6 +25,12 @@ pub struct State {
     pub notes: Items<Note>,
     pub macros: Macros,
     pub groups: Groups,
+    /// The headers that are read so far, by their numbers.
+    pub headers: Items<u32>,
+    /// How many items macros may still add.
+    pub room: u32,
+    /// Whether a note says that a name stays, and may stay for lack of room.
+    pub is_full: bool,
 }
 
 impl State {
@@ -30,6 +42,9 @@ impl State {
             notes: Items::new(alloc),
             macros: Macros::new(alloc),
             groups: Groups::new(alloc),
+            headers: Items::new(alloc),
+            room: MAX_ADDED,
+            is_full: false,
         }
     }
 
@@ -45,6 +60,39 @@ impl State {
         self.notes.push(Note { kind, at })
     }
 
+    /// How many items a use may add.
+    pub fn allowed(&self) -> u32
+        ensures { result ≡ spec.allowed self.now }
+    {
+        MAX_ITEMS.min(self.room)
+    }
+
+    /// Takes so many items from the room.
+    pub fn pay(&mut self, count: u32)
+        ensures { self.new ≡ spec.paid count self.old }
+    {
+        self.room = self.room.saturating_sub(count);
+    }
+
+    fn is_scarce(&self, note: Note) -> bool
+        ensures { result ≡ spec.is_scarce note self.now }
+    {
+        self.room < MAX_ITEMS && same_reason(note.kind, NoteKind::Large)
+    }
+
+    /// Adds a note on a use. Of the names that may stay for lack of room, only the first one is noted.
+    pub fn tell(&mut self, note: Note) -> Result<(), AllocError>
+        ensures { OnOk result (self.new ≡ spec.told note self.old) }
+    {
+        if self.is_scarce(note) {
+            if self.is_full {
+                return Ok(());
+            }
+            self.is_full = true;
+        }
+        self.note(note.kind, note.at)
+    }
+
     /// Opens a group.
     pub fn open(&mut self, group: Group) -> Result<(), AllocError>
         ensures { OnOk result (self.new ≡ spec.with_groups (group ∷ self.old.groups) self.old) }
@@ -57,6 +105,20 @@ impl State {
         ensures { OnOk result (self.new ≡ spec.with_groups (with_top group self.old.groups) self.old) }
     {
         self.groups.change(group)
+    }
+
+    /// Whether a header was read.
+    pub fn has_read(&self, header: u32) -> bool
+        ensures { result ≡ spec.was_read header self.now }
+    {
+        self.headers.as_slice().contains(&header)
+    }
+
+    /// A header is read from here on.
+    pub fn enter(&mut self, header: u32) -> Result<(), AllocError>
+        ensures { OnOk result (self.new ≡ spec.with_header header self.old) }
+    {
+        self.headers.push(header)
     }
 
     /// Whether text is read here.

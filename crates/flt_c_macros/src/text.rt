@@ -1,6 +1,6 @@
 //! The text between directives: uses of macros are expanded.
 
-ghost use Rattle.std.specs.Prelude.{◌≡◌, ◌<◌, [], None, OnOk, IfOk, option_copied};
+ghost use Rattle.std.specs.Prelude.{◌≡◌, ◌<◌, [], length, None, OnOk, IfOk, option_copied};
 ghost use Rattle.flt_c_macros.specs.Bodies.{filled};
 ghost use Rattle.flt_c_macros.specs.Machines.{unprepared};
 ghost use Rattle.flt_c_macros.specs.Uses as spec;
@@ -56,6 +56,7 @@ fn refusal(
 ) -> Option<NoteKind>
     ensures value { result ≡ spec.refusal depth names.now rest body.now search.now left }
     ensures deep { result ≡ None → 0 < depth }
+    ensures few { result ≡ None → length body.now < left }
 {
     if !are_given(names, rest, search.arguments.as_slice()) {
         Some(NoteKind::Arguments)
@@ -66,7 +67,7 @@ fn refusal(
     }
 }
 
-/// Puts arguments in a body, which will be read.
+/// Puts arguments in a body, which is paid and will be read.
 fn put_in(
     alloc: Global,
     token: Token,
@@ -76,13 +77,19 @@ fn put_in(
     prepared: Prepared,
     machine: &mut Machine,
 ) -> Result<(), AllocError>
-    ensures { OnOk result (machine.new ≡ spec.put_in token search.now prepared (filled prepared.given rest token 0 body.now) machine.old) }
+    ensures { OnOk result (machine.new ≡ spec.put_in token search.now prepared (length body.now)
+        (filled prepared.given rest token 0 body.now) machine.old) }
 {
     let Prepared { given, left, notes } = prepared;
-    match fill(alloc, given.as_slice(), rest, token, body, left)? {
-        None => machine.fail(NoteKind::Large, token, search),
+    let limit = left as usize + body.len() + 1;
+    match fill(alloc, given.as_slice(), rest, token, body, limit)? {
+        None => {
+            machine.left = left;
+            machine.fail(NoteKind::Large, token, search)
+        }
         Some(words) => {
-            machine.pass(alloc, search, left, notes)?;
+            let more = words.len().saturating_sub(body.len()) as u32;
+            machine.pass(alloc, search, left - more, notes)?;
             machine.enter(token.word, words.as_slice())
         }
     }
@@ -189,6 +196,7 @@ fn call_by(
         Stage::Closed => match refusal(depth, names, rest, body, search, machine.left) {
             Some(kind) => machine.fail(kind, token, search),
             None => {
+                machine.pay(body.len());
                 let tokens = apart(alloc, rest, body)?;
                 call_given(
                     alloc,
@@ -303,17 +311,17 @@ fn read(
 #[tactic(auto, using(crate::proofs::Turns::read_ends))]
 fn read_use(
     alloc: Global,
-    macros: &Macros,
     kept: &[bool],
+    state: &State,
     token: Token,
     source: &[Token],
     quiet: usize,
 ) -> Result<Machine, AllocError>
-    ensures done { IfOk result (λ m. m ≡ spec.use_read kept.now macros.now token source.now quiet) }
+    ensures done { IfOk result (λ m. m ≡ spec.use_read kept.now token source.now quiet state.now) }
     ensures all { IfOk result (λ m. m.items ≡ []) }
 {
-    let mut machine = Machine::fresh(alloc, token, source.len(), quiet)?;
-    read(alloc, macros, kept, MAX_DEPTH, source, &mut machine)?;
+    let mut machine = Machine::fresh(alloc, token, state.allowed(), source.len(), quiet)?;
+    read(alloc, &state.macros, kept, MAX_DEPTH, source, &mut machine)?;
     Ok(machine)
 }
 
@@ -324,7 +332,7 @@ fn note_all(state: &mut State, notes: &[Note]) -> Result<(), AllocError>
     let mut before = None;
     for note in notes {
         if !is_told(*note, before) {
-            state.note(note.kind, note.at)?;
+            state.tell(*note)?;
         }
         before = Some(*note);
     }
@@ -339,6 +347,16 @@ fn push_all(state: &mut State, words: &[Word]) -> Result<(), AllocError>
         state.push(word.token)?;
     }
     Ok(())
+}
+
+/// Adds what a use was expanded to, takes what it added from the room, and adds its notes.
+fn add_use(state: &mut State, machine: &Machine) -> Result<(), AllocError>
+    ensures { OnOk result (state.new ≡ spec.used machine.now state.old) }
+{
+    let added = state.allowed().saturating_sub(machine.left);
+    push_all(state, machine.written.as_slice())?;
+    state.pay(added);
+    note_all(state, machine.notes.as_slice())
 }
 
 /// How much of a text is still read.
@@ -371,9 +389,8 @@ fn read_token(
             quiet: place.quiet,
         });
     }
-    let machine = read_use(alloc, &state.macros, kept, token, source, place.quiet)?;
-    push_all(state, machine.written.as_slice())?;
-    note_all(state, machine.notes.as_slice())?;
+    let machine = read_use(alloc, kept, state, token, source, place.quiet)?;
+    add_use(state, &machine)?;
     Ok(Place {
         after: machine.after,
         quiet: machine.quiet,

@@ -1,21 +1,47 @@
 //! Listings of C files; examples/cases/functions.cases has more of them.
 
 use flt_c_functions::{Listing, Options, functions};
+use flt_c_headers::HeaderFiles;
 use flt_c_syntax::Reason;
 use flt_c_tokens::Excess;
 use std::alloc::{AllocError, Global};
 use std::test::Fail;
 
+/// Files by their names.
+#[derive(Drop)]
+struct Table<'a> {
+    files: &'a [(&'a str, &'a [u8])],
+}
+
+impl HeaderFiles for Table<'_> {
+    ghost gives = { λ table name found. Unit {0} };
+
+    fn read(&self, alloc: Global, name: &str) -> Result<Option<Vec<u8>>, AllocError> {
+        for (own, bytes) in self.files {
+            if *own == name {
+                return Ok(Some(Vec::from_slice(alloc, bytes)?));
+            }
+        }
+        Ok(None)
+    }
+}
+
 static NAMES: [&str; 2] = ["a.cc", "b.cc"];
 
-/// Files with a type of the other one, conditions that options decide, a name of which nothing is known, a table, and unread places.
+/// A header with a function, and one of its own.
+static HEADERS: [(&str, &[u8]); 2] = [
+    ("inc/h.h", b"#include \"i.h\"\nvoid h(void) { N }"),
+    ("inc/i.h", b"#define N return;"),
+];
+
+/// Files with a type of the other one, a header, conditions that options decide, a name of which nothing is known, a table, and unread places.
 static TEXTS: [&str; 2] = [
-    "#if D\nvoid f(void) { a = (t) b; }\n#else\n}\n#endif\n#ifdef U\n}\n#endif\n#if X\n#define M 1\n#endif\nFLT_OPERATION_REGISTRATION T[] = { { D, M } };\n#else\n",
-    "typedef int t;\n}\nvoid g(void) { a = ; }",
+    "#if D\nvoid f(void) { a = (t) b; }\n#else\n}\n#endif\n#ifdef U\n}\n#endif\n#if X\n#define M x\n#endif\nFLT_OPERATION_REGISTRATION T[] = { { D, M } };\n#else\n",
+    "typedef int t;\n}\nvoid g(void) { a = ; }\n#include <h.h>",
 ];
 
 const LISTING: &str =
-    "a.cc:12:41: not expanded: M: an #if decides what a macro is\na.cc:13:1: not read: no #if is open here\na.cc:2:6: function f: read\na.cc:12:28: table T: operations\n  { 1, M }\nb.cc:2:1: not read: this brace closes nothing\nb.cc:3:6: function g: stops at line 3, column 20: another token is expected\n";
+    "a.cc:12:41: not expanded: M: an #if decides what a macro is\na.cc:13:1: not read: no #if is open here\na.cc:2:6: function f: read\na.cc:12:28: table T: operations\n  { D, M }\nb.cc:2:1: not read: this brace closes nothing\nb.cc:3:6: function g: stops at line 3, column 20: another token is expected\ninc/h.h:2:6: function h: read\n";
 
 /// The listing of files after `#define D 1` and `#undef U`.
 fn listing_of(alloc: Global, texts: &[&str]) -> Result<Option<Listing>, AllocError> {
@@ -27,8 +53,10 @@ fn listing_of(alloc: Global, texts: &[&str]) -> Result<Option<Listing>, AllocErr
     let options = Options {
         defined: &["D", "U=2"],
         undefined: &["U"],
+        folders: &["inc"],
     };
-    match functions(alloc, options, &NAMES, files.as_slice())? {
+    let headers = Table { files: &HEADERS };
+    match functions(alloc, &headers, options, &NAMES, files.as_slice())? {
         Ok(listing) => Ok(Some(listing)),
         Err(_) => Ok(None),
     }
@@ -132,8 +160,10 @@ fn a_large_file_is_refused_by_its_number(rt: HostRuntime) -> Result<(), Fail> {
     let options = Options {
         defined: &[],
         undefined: &[],
+        folders: &[],
     };
-    let found = functions(alloc, options, &NAMES, files.as_slice())?;
+    let headers = Table { files: &[] };
+    let found = functions(alloc, &headers, options, &NAMES, files.as_slice())?;
     assert!(rt; matches!(found, Err((1, Excess::LargeFile))));
     Ok(())
 }

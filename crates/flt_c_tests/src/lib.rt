@@ -1,4 +1,4 @@
-//! Tests of the reader of plain C: the tokens of C files, their directives and items, trees of bodies, and listings.
+//! Tests of the reader of plain C: the tokens of C files, their headers, directives and items, trees of bodies, and listings.
 #![tactic(auto)]
 
 #[cfg(test)]

@@ -9,7 +9,7 @@ use std::test::Fail;
 /// mark of a group has a bracket. The name `KEPT` is never expanded.
 type Case<'a> = (&'a [u8], &'a [u8], &'a [(NoteKind, u32, u32)]);
 
-static CASES: [Case<'static>; 46] = [
+static CASES: [Case<'static>; 50] = [
     // Groups: what is known of a condition decides them; of the others each branch is marked that isn't known to be false.
     (b"a b\n", b"a b ", &[]),
     (b"#if 1\na\n#else\nb\n#endif\nc\n", b"a c ", &[]),
@@ -139,6 +139,36 @@ static CASES: [Case<'static>; 46] = [
             (NoteKind::Arguments, 5, 4),
             (NoteKind::Parameters, 5, 18),
             (NoteKind::Parameters, 5, 23),
+        ],
+    ),
+    // A body is paid where its arguments are empty: `F()` takes 17 words and an end, `G` 321. Behind 12 of these `H` has 227 left, and ten
+    // `F()` of the next `G` leave 8.
+    (
+        b"#define F(a) a a a a a a a a a a a a a a a a\n#define G F() F() F() F() F() F() F() F() F() F() F() F() F() F() F() F()\n#define H G G G G G G G G G G G G G G G G\nH\n",
+        b"F ( ) F ( ) F ( ) F ( ) F ( ) F ( ) G G G ",
+        &[(NoteKind::Large, 4, 1)],
+    ),
+    // So are a body and arguments where they don't fit: 18 and 9 of 136 that `C` leaves, as 136 words are more than 109 and 17. Then `W` in
+    // its brackets takes 9, five `B` 85, and the sixth 9 and 6.
+    (
+        b"#define A\n#define B A A A A A A A A\n#define C B B B B B B B B\n#define D C C C C C C C C\n#define W w w w w w w w w\n#define S(a) a a a a a a a a a a a a a a a a a\n#define U D D D C C C S(W) B B B B B B B\nU\n",
+        b"S ( w w w w w w w w ) A A B ",
+        &[(NoteKind::Large, 8, 1)],
+    ),
+    // A name before `...` stands for it, as in GNU C, and `__VA_ARGS__` is then a name as any other.
+    (
+        b"#define L(f, args...) p(f, ## args)\n#define E(args...) e(args)\n#define V(args...) e(args, __VA_ARGS__)\n#define J(args ...) x, ## args\n#define N 1\nL(\"a\") L(\"a\", N, (2, 3)) L(N, L(N)) L(); E() E(N, (2, E(N)));\nV(1) V(1, N) J() J(1, N) J(,)\n",
+        b"p ( \"a\" ) p ( \"a\" , 1 , ( 2 , 3 ) ) p ( 1 , L ( 1 ) ) p ( ) ; e ( ) e ( 1 , ( 2 , e ( 1 ) ) ) ; e ( 1 , __VA_ARGS__ ) e ( 1 , 1 , __VA_ARGS__ ) x x , 1 , 1 x , , ",
+        &[],
+    ),
+    (
+        b"#define F(a... b) 1\n#define F(a..., b) 1\n#define F(a b...) 1\n#define F(a......) 1\nF\n",
+        b"F ",
+        &[
+            (NoteKind::Malformed, 1, 1),
+            (NoteKind::Malformed, 2, 1),
+            (NoteKind::Malformed, 3, 1),
+            (NoteKind::Malformed, 4, 1),
         ],
     ),
     (b"#define F (a)\nF\n", b"( a ) ", &[]),
@@ -286,7 +316,7 @@ fn is_made(alloc: Global, case: Case<'_>) -> Result<bool, AllocError> {
         Err(_) => return Ok(false),
     };
     let kept = kept_names(alloc, &spellings)?;
-    match expanded(alloc, &mut spellings, kept.as_slice(), read.as_slice()) {
+    match expanded(alloc, &mut spellings, kept.as_slice(), &[], read.as_slice()) {
         Ok(found) => {
             let written = spelled(alloc, &spellings, found.tokens.as_slice())?;
             Ok(written.as_slice() == case.1 && are_notes(&found, case.2))

@@ -110,6 +110,8 @@ pub enum Kind {
     GroupIf,
     GroupElse,
     GroupEnd,
+    /// A header, in the place of its name in a line of `#include`. No file has it: what reads headers writes it, and its number is the header's.
+    Header,
     // What can't be read.
     /// A byte with which no token begins.
     Stray,

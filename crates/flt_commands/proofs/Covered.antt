@@ -384,7 +384,7 @@ module _ (law : Law) (runs : LawOfRuns) (nowhere : SpelledFailsNowhere) where
   clean_of shown gives (Format mode files) codes texts said bytes status is reported good = tt
   clean_of shown gives (Pages names) codes texts said bytes status is reported good = tt
   clean_of shown gives (Compare files) codes texts said bytes status is reported good = tt
-  clean_of shown gives (Functions defined undefined files) codes texts said bytes status is reported good = tt
+  clean_of shown gives (Functions defined undefined folders files) codes texts said bytes status is reported good = tt
   clean_of shown gives (Emit part file cert) codes texts said bytes status is reported good =
       says_clean OfText gives _ texts (IsEmitted part) _ said bytes status
       (λ answer is well. emitted texts answer part file cert is well) is reported good

@@ -19,7 +19,7 @@ use Rattle.flt_c_functions.specs.Options.{lines_of}
 use Rattle.flt_files.specs.Inputs.{Giving, Says, Text, gives_but, gives_if, gives_text, kept}
 use Rattle.flt_files.specs.Names.{names_of}
 use Rattle.flt_commands_runs.specs.Replay.{IsReplayed}
-use Rattle.flt_commands.specs.Single.{AreSame, AskForOne, GivesOne, HasOneAnswer, SaysOne, seen, told}
+use Rattle.flt_commands.specs.Single.{AreSame, AskForOne, GivesOne, HasOneAnswer, ListsOne, SaysOne, seen, told}
 use Rattle.flt_commands_texts.specs.Thin.{IsThinned}
 use Rattle.flt_words.specs.Request.{Asked, Check, Analyse, Thin, Run, Replay, Show, Explain}
 use Rattle.flt_words.specs.Request.{Extract, Format, Pages, Emit, EmitInto, Compare, Functions, Serve}
@@ -98,8 +98,25 @@ module _ (gives : Giving) (one : GivesOne gives) where
   gives_one (Emit part file cert) = but_once cert
   gives_one (EmitInto folder is_forced file cert) = one
   gives_one (Compare files) = one
-  gives_one (Functions defined undefined files) = one
+  gives_one (Functions defined undefined folders files) = one
   gives_one Serve = one
+
+-- ---- what `draft --functions` lists
+
+-- where functions are asked for, one thing is listed at most
+abbrev ListsFor : Giving → Asked → Type 0
+ListsFor gives (Functions defined undefined folders files) = SaysOne OfText (AreListed gives folders (lines_of defined undefined) files)
+ListsFor gives request = Unit {0}
+
+-- so it is for each request, of what the inputs give
+pub lists_as : (gives : Giving) → ListsOne gives → (request : Asked) → ListsFor gives request
+lists_as gives listed (Functions defined undefined folders files) = listed folders (lines_of defined undefined) files
+lists_as gives listed request = tt
+
+-- and of what is kept of that
+lists_for : (gives : Giving) → ListsOne gives → (request : Asked) → ListsFor (giving_for request gives) request
+lists_for gives listed (Functions defined undefined folders files) = listed folders (lines_of defined undefined) files
+lists_for gives listed request = tt
 
 -- the standard input can't be read for a server
 unserved_once : (a b : Result Answer Failure) → IsUnserved a → IsUnserved b → AreSame a b
@@ -124,63 +141,64 @@ module _ {A : Type 0} (kind : A → Answer) where
       (says_once gives one kind names IsSaidOf once texts more)
 
 module _ (checked : SaysOne OfText IsChecked) (analysed : SaysOne OfText IsAnalysed) (thinned : SaysOne OfText IsThinned)
-    (replayed : SaysOne OfRun IsReplayed) (listed : (lines names : List Text) → SaysOne OfText (AreListed lines names))
-    (nowhere : SpelledFailsNowhere) where
+    (replayed : SaysOne OfRun IsReplayed) (nowhere : SpelledFailsNowhere) where
   -- of what is asked for one thing is said at most
   pub said_once : (gives : Giving) (shown showing : Bool) (request : Asked) (codes others : List (Option Text)) (texts more : List Text)
-      (a b : Result Answer Failure) → HasOneAnswer request → GivesOne gives → IsSaid shown gives request codes texts a →
-      IsSaid showing gives request others more b → AreSame a b
-  said_once gives shown showing (Check file cert) codes others texts more a b has one x y =
+      (a b : Result Answer Failure) → HasOneAnswer request → GivesOne gives → ListsFor gives request →
+      IsSaid shown gives request codes texts a → IsSaid showing gives request others more b → AreSame a b
+  said_once gives shown showing (Check file cert) codes others texts more a b has one listed x y =
       says_of_one_kind OfText gives one (names_of (Check file cert)) IsChecked checked texts more a b x y
-  said_once gives shown showing (Analyse file) codes others texts more a b has one x y =
+  said_once gives shown showing (Analyse file) codes others texts more a b has one listed x y =
       says_of_one_kind OfText gives one (names_of (Analyse file)) IsAnalysed analysed texts more a b x y
-  said_once gives shown showing (Thin file cert) codes others texts more a b has one x y =
+  said_once gives shown showing (Thin file cert) codes others texts more a b has one listed x y =
       says_of_one_kind OfText gives one (names_of (Thin file cert)) IsThinned thinned texts more a b x y
-  said_once gives shown showing (Run workers quiet script files) codes others texts more a b has one x y = absurd has
-  said_once gives shown showing (Replay journal files) codes others texts more a b has one x y =
+  said_once gives shown showing (Run workers quiet script files) codes others texts more a b has one listed x y = absurd has
+  said_once gives shown showing (Replay journal files) codes others texts more a b has one listed x y =
       says_of_one_kind OfRun gives one (names_of (Replay journal files)) IsReplayed replayed texts more a b x y
-  said_once gives shown showing (Show timeline picture journal files) codes others texts more a b has one x y = absurd has
-  said_once gives shown showing (Explain form colour search journal warnings is_c files) codes others texts more a b has one x y =
+  said_once gives shown showing (Show timeline picture journal files) codes others texts more a b has one listed x y = absurd has
+  said_once gives shown showing (Explain form colour search journal warnings is_c files) codes others texts more a b has one listed x y =
       absurd has
-  said_once gives shown showing (Extract of_map files) codes others texts more a b has one x y =
+  said_once gives shown showing (Extract of_map files) codes others texts more a b has one listed x y =
       says_of_one_kind OfText gives one (names_of (Extract of_map files)) (IsExtracted of_map files) (extracts_once of_map files) texts
       more a b x y
-  said_once gives shown showing (Format modes.Print files) codes others texts more a b has one x y =
+  said_once gives shown showing (Format modes.Print files) codes others texts more a b has one listed x y =
       of_one_kind OfText (IsFormatSaid gives modes.Print files texts) (IsFormatSaid gives modes.Print files more)
       (layouts_said_once nowhere gives one modes.Print (λ e. cc) files texts more) a b x y
-  said_once gives shown showing (Format modes.Check files) codes others texts more a b has one x y =
+  said_once gives shown showing (Format modes.Check files) codes others texts more a b has one listed x y =
       of_one_kind OfText (IsFormatSaid gives modes.Check files texts) (IsFormatSaid gives modes.Check files more)
       (layouts_said_once nowhere gives one modes.Check (λ e. cc) files texts more) a b x y
-  said_once gives shown showing (Format modes.Write files) codes others texts more a b has one x y = absurd has
-  said_once gives shown showing (Pages names) codes others texts more a b has one x y = absurd has
-  said_once gives shown showing (Emit part file cert) codes others texts more a b has one x y = absurd has
-  said_once gives shown showing (EmitInto folder is_forced file cert) codes others texts more a b has one x y = absurd has
-  said_once gives shown showing (Compare files) codes others texts more a b has one x y =
+  said_once gives shown showing (Format modes.Write files) codes others texts more a b has one listed x y = absurd has
+  said_once gives shown showing (Pages names) codes others texts more a b has one listed x y = absurd has
+  said_once gives shown showing (Emit part file cert) codes others texts more a b has one listed x y = absurd has
+  said_once gives shown showing (EmitInto folder is_forced file cert) codes others texts more a b has one listed x y = absurd has
+  said_once gives shown showing (Compare files) codes others texts more a b has one listed x y =
       says_of_one_kind OfText gives one (names_of (Compare files)) (IsCompared files) (compares_once files) texts more a b x y
-  said_once gives shown showing (Functions defined undefined files) codes others texts more a b has one x y =
-      says_of_one_kind OfText gives one (names_of (Functions defined undefined files)) (AreListed (lines_of defined undefined) files)
-      (listed (lines_of defined undefined) files) texts more a b x y
-  said_once gives shown showing Serve codes others texts more a b has one x y = unserved_once a b x y
+  said_once gives shown showing (Functions defined undefined folders files) codes others texts more a b has one listed x y =
+      says_of_one_kind OfText gives one (names_of (Functions defined undefined folders files))
+      (AreListed gives folders (lines_of defined undefined) files) listed texts more a b x y
+  said_once gives shown showing Serve codes others texts more a b has one listed x y = unserved_once a b x y
 
   -- one thing is printed at most, with one exit status
   printed_once : (gives : Giving) (written others : Text → Text → Type 0) (does did : List Attempt → Type 0) (shown showing : Bool)
       (request : Option Asked) (r s : Report) →
-      AskForOne request → GivesOne gives → AnswersFor shown gives written does request r → AnswersFor showing gives others did request s →
+      AskForOne request → GivesOne gives → ListsOne gives → AnswersFor shown gives written does request r →
+      AnswersFor showing gives others did request s →
       (r.output.items ≡ s.output.items) × (r.status ≡ s.status)
-  printed_once gives written others does did shown showing None r s has one x y = (x.0.0 ∙ sym y.0.0, x.0.1 ∙ sym y.0.1)
-  printed_once gives written others does did shown showing (Some request) r s has one x y =
+  printed_once gives written others does did shown showing None r s has one listed x y = (x.0.0 ∙ sym y.0.0, x.0.1 ∙ sym y.0.1)
+  printed_once gives written others does did shown showing (Some request) r s has one listed x y =
       reported_once r.output.items s.output.items r.status s.status x.said y.said
       (said_once (giving_for request gives) shown showing request (codes_of r) (codes_of s) x.texts y.texts x.said y.said has
-      (gives_one gives one request) x.is y.is)
+      (gives_one gives one request) (lists_for gives listed request) x.is y.is)
       x.reported y.reported
 
   -- the same of what goes out
   pub let_out_once : (gives : Giving) (written others : Text → Text → Type 0) (does did : List Attempt → Type 0) (shown showing : Bool)
       (request : Option Asked) (r s : Report) →
-      AskForOne request → GivesOne gives → Answers shown gives written does request r → Answers showing gives others did request s →
+      AskForOne request → GivesOne gives → ListsOne gives → Answers shown gives written does request r →
+      Answers showing gives others did request s →
       (r.output.items ≡ s.output.items) × (r.status ≡ s.status)
-  let_out_once gives written others does did shown showing request r s has one (a, x, p) (b, y, q) =
-      let same = printed_once gives written others does did shown showing request a b has one x y in (
+  let_out_once gives written others does did shown showing request r s has one listed (a, x, p) (b, y, q) =
+      let same = printed_once gives written others does did shown showing request a b has one listed x y in (
         p.output ∙ ap (out_of (gives_bytes request)) same.0 ∙ sym q.output,
         p.status ∙ same.1 ∙ sym q.status,
       )

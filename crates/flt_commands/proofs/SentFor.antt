@@ -100,5 +100,5 @@ cut_short_for gives (Some (Pages names)) old = Appends-nil old
 cut_short_for gives (Some (Emit part file cert)) old = Appends-nil old
 cut_short_for gives (Some (EmitInto folder is_forced file cert)) old = Appends-nil old
 cut_short_for gives (Some (Compare files)) old = Appends-nil old
-cut_short_for gives (Some (Functions defined undefined files)) old = Appends-nil old
+cut_short_for gives (Some (Functions defined undefined folders files)) old = Appends-nil old
 cut_short_for gives (Some Serve) old = Appends-nil old

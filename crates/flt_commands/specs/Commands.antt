@@ -79,8 +79,9 @@ IsSaid shown gives (Emit part file cert) codes texts = IsOf OfText (Says gives (
 IsSaid shown gives (EmitInto folder is_forced file cert) codes texts =
     IsOf OfText (Says gives (names_of (EmitInto folder is_forced file cert)) (IsEmittedInto gives is_forced folder) texts)
 IsSaid shown gives (Compare files) codes texts = IsOf OfText (Says gives (names_of (Compare files)) (IsCompared files) texts)
-IsSaid shown gives (Functions defined undefined files) codes texts =
-    IsOf OfText (Says gives (names_of (Functions defined undefined files)) (AreListed (lines_of defined undefined) files) texts)
+IsSaid shown gives (Functions defined undefined folders files) codes texts =
+    IsOf OfText (Says gives (names_of (Functions defined undefined folders files))
+    (AreListed gives folders (lines_of defined undefined) files) texts)
 IsSaid shown gives Serve codes texts = IsUnserved
 
 -- ---- how that is printed

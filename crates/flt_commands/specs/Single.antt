@@ -3,8 +3,10 @@ use Rattle.std.specs.Prelude.{◌≡◌, ◌≢◌, ℕ, List, Option, Some, Non
 use Rattle.flt_words.specs.Request.{Asked, Run, Show, Explain, Format, Pages, Emit, EmitInto}
 use Rattle.flt_words.specs.declared.request.FormatMode.TheVariants.{Write}
 use Rattle.flt_commands.specs.Answer.{answered, output, status_of}
+use Rattle.flt_commands_texts.specs.Functions.{AreListed}
 use Rattle.flt_files.specs.Inputs.{Giving, Text}
 use Rattle.flt_commands.specs.declared.answer.Answer.{Answer}
+use Rattle.flt_commands.specs.declared.answer.Answer.TheVariants.{OfText}
 use Rattle.flt_files.specs.declared.failure.Failure.{Failure}
 use Rattle.flt_files.specs.declared.failure.Failure.TheVariants.{CannotRead, Flawed, TooManyWords, OutOfMemory}
 
@@ -51,3 +53,7 @@ AskForOne (Some request) = HasOneAnswer request
 abbrev pub SaysOne : {A : Type 0} → (A → Answer) → (List Text → Result A Failure → Type 0) → Type 0
 SaysOne {A} kind IsSaidOf =
     (texts : List Text) (a b : Result A Failure) → IsSaidOf texts a → IsSaidOf texts b → AreSame (answered kind a) (answered kind b)
+
+-- `draft --functions` lists one thing at most, whatever the folders of headers, the lines of directives and the names are
+abbrev pub ListsOne : Giving → Type 0
+ListsOne gives = (folders lines names : List Text) → SaysOne OfText (AreListed gives folders lines names)

@@ -270,6 +270,7 @@ fn report_of<
         Request::Functions {
             defined,
             undefined,
+            folders,
             files,
         } => {
             let said = list_functions(
@@ -277,6 +278,7 @@ fn report_of<
                 inputs,
                 defined.as_slice(),
                 undefined.as_slice(),
+                folders.as_slice(),
                 files.as_slice(),
                 &mut contents,
             );

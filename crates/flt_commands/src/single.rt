@@ -5,7 +5,6 @@ ghost use Rattle.flt_commands_texts.specs.Analyse.{IsAnalysed};
 ghost use Rattle.flt_files.specs.Attempts.{Does};
 ghost use Rattle.flt_commands_texts.specs.Check.{HasPoints, IsChecked};
 ghost use Rattle.flt_commands.specs.Commands.{Answers, IsSaid};
-ghost use Rattle.flt_commands_texts.specs.Functions.{AreListed};
 ghost use Rattle.flt_files.specs.Inputs.{Text};
 ghost use Rattle.flt_commands_runs.specs.Replay.{IsReplayed};
 ghost use Rattle.flt_commands.specs.Single as spec;
@@ -21,6 +20,7 @@ use flt_analyse::{one_certificate_is_least, one_fault_is_named};
 use flt_c_functions::lists_at_most_one;
 use flt_cert::{one_certificate_is_spelled, one_fault_is_first};
 use flt_check::one_refusal_at_most;
+use flt_commands_texts::HeaderInputs;
 use flt_files::{Inputs, Pictures};
 use flt_graph::one_graph_at_most;
 use flt_model::{one_first_fault_at_most, one_journal_is_spelled};
@@ -79,11 +79,12 @@ fn one_verdict_at_most()
     one_first_fault_at_most();
 }
 
-/// `draft --functions` has at most one answer to some bytes of files of these names. It does nothing at run time: its clause is the law.
-fn one_listing_at_most()
-    ensures { (lines names : List Text) → spec.SaysOne OfText (AreListed lines names) }
+/// `draft --functions` has at most one answer to some bytes, if the inputs give one thing for each name. It does nothing at run time: its
+/// clause is the law.
+fn one_listing_at_most<I: Inputs>()
+    ensures { (inputs : I) → spec.GivesOne (I.gives inputs) → spec.ListsOne (I.gives inputs) }
 {
-    lists_at_most_one();
+    lists_at_most_one::<HeaderInputs<'_, I>>();
 }
 
 /// A command line has at most one answer if the inputs give one thing for each name and it asks for no run, no journal that is shown, no
@@ -104,6 +105,6 @@ pub fn one_answer_at_most<I: Inputs, P: Pictures>()
     one_analysis_at_most();
     one_thin_at_most();
     one_verdict_at_most();
-    one_listing_at_most();
+    one_listing_at_most::<I>();
     fails_exactly_where_nothing_is_spelled();
 }

@@ -23,5 +23,5 @@ names_of (Emit part file (Some cert)) = file ∷ cert ∷ []
 names_of (EmitInto folder is_forced file None) = file ∷ []
 names_of (EmitInto folder is_forced file (Some cert)) = file ∷ cert ∷ []
 names_of (Compare files) = files
-names_of (Functions defined undefined files) = files
+names_of (Functions defined undefined folders files) = files
 names_of Serve = []

@@ -2,7 +2,7 @@
 use Rattle.std.proofs.Common.{◌≡◌, List, ℕ, Bool, Some, None, Bor, if◌then◌else◌, map, refl}
 use Rattle.std.proofs.lemmas.List.Folds.{list_all-map}
 use Rattle.std.specs.List.{list_all}
-use Rattle.flt_words.specs.Words.{is_kind, kinds_in}
+use Rattle.flt_words.specs.Values.{is_kind, kinds_in}
 
 -- names are taken where each is the name of a kind, and else none is
 pub kinds_if : (names slice : List (Bor (List ℕ))) (b : Bool) → slice ≡ names → b ≡ list_all (λ name. is_kind name.now) slice →

@@ -1,5 +1,5 @@
 pub mod Beginning
-pub mod Commands
+pub mod BuiltCommands
 pub mod Counts
 pub mod Requests
 pub mod Letters

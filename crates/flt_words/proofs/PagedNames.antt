@@ -3,7 +3,7 @@ use Rattle.std.proofs.Common.{◌≡◌, ◌≤◌, ℕ, List, [], ◌∷◌, Bo
 use Rattle.std.proofs.lemmas.List.Folds.{list_all-map}
 use Rattle.std.specs.List.{list_all}
 use Rattle.flt_explain_pages.specs.Pages.{has_page}
-use Rattle.flt_words.specs.Words.{have_pages}
+use Rattle.flt_words.specs.Commands.{have_pages}
 
 -- where there are names, they have pages if each of them has one
 pub each_has_page : (names : List (Bor (List ℕ))) → 1 ≤ length names →

@@ -23,7 +23,8 @@ use Rattle.flt_words.specs.declared.request.Request.{Request}
 use Rattle.flt_words.specs.Program.{IsCommand, program_app}
 use Rattle.flt_words.proofs.Needed.{Serves}
 use Rattle.flt_words.specs.Request.{asked_of}
-use Rattle.flt_words.specs.Words.{asked_by, asked_words, is_memory, is_none}
+use Rattle.flt_words.specs.Commands.{asked_by}
+use Rattle.flt_words.specs.Words.{asked_words, is_memory, is_none}
 
 -- a name and the matches behind it
 module _ {A B C : Type 0} (f : A → B) (g : A → C) where

@@ -129,6 +129,10 @@ define_rule = record (new_rule (codes "define")) { long = Some (codes "define");
 abbrev pub undef_rule : Rule
 undef_rule = record (new_rule (codes "undef")) { long = Some (codes "undef"); value_names = 1; action = Some Append }
 
+-- `--include DIR`, any number of times
+abbrev pub include_rule : Rule
+include_rule = record (new_rule (codes "include")) { long = Some (codes "include"); value_names = 1; action = Some Append }
+
 -- ---- commands
 
 abbrev pub bare_check_app : App
@@ -204,9 +208,10 @@ compare_app = with_rule bare_compare_app texts_rule
 abbrev pub bare_draft_app : App
 bare_draft_app = new_app (codes "draft")
 
--- `draft --functions [--define NAME[=VALUE]].. [--undef NAME].. FILE..`
+-- `draft --functions [--define NAME[=VALUE]].. [--undef NAME].. [--include DIR].. FILE..`
 abbrev pub draft_app : App
-draft_app = with_rule (with_rule (with_rule (with_rule bare_draft_app functions_rule) define_rule) undef_rule) texts_rule
+draft_app =
+    with_rule (with_rule (with_rule (with_rule (with_rule bare_draft_app functions_rule) define_rule) undef_rule) include_rule) texts_rule
 
 -- `serve`
 abbrev pub serve_app : App

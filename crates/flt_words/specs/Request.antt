@@ -34,7 +34,7 @@ pub data Asked : Type 0 where
   Emit : (part : Part) (file : Text) (cert : Option Text) → Asked
   EmitInto : (folder : Text) (is_forced : Bool) (file : Text) (cert : Option Text) → Asked
   Compare : (files : List Text) → Asked
-  Functions : (defined undefined files : List Text) → Asked
+  Functions : (defined undefined folders files : List Text) → Asked
   Serve : Asked
 
 -- what a request asks for, none where it is for a text of the program's own: its use, or its version
@@ -58,8 +58,9 @@ asked_of (request.Emit part file cert) = Some (Emit part file.now (option_map (�
 asked_of (request.EmitInto folder is_forced file cert) =
     Some (EmitInto folder.now is_forced file.now (option_map (λ name. name.now) cert))
 asked_of (request.Compare files) = Some (Compare (map (λ name. name.now) files.items))
-asked_of (request.Functions defined undefined files) =
-    Some (Functions (map (λ name. name.now) defined.items) (map (λ name. name.now) undefined.items) (map (λ name. name.now) files.items))
+asked_of (request.Functions defined undefined folders files) =
+    Some (Functions (map (λ name. name.now) defined.items) (map (λ name. name.now) undefined.items)
+    (map (λ name. name.now) folders.items) (map (λ name. name.now) files.items))
 
 -- the files of which `explain` reports
 abbrev pub explained_files : Option Asked → List Text

@@ -328,11 +328,23 @@ fn undef_argument<'a>(alloc: Global) -> Arg<'a>
         .help("Take a name for no macro at the beginning of each FILE, whatever `--define` says")
 }
 
+/// The option `--include`.
+fn include_argument<'a>(alloc: Global) -> Arg<'a>
+    ensures rule { rule_of result ≡ spec.include_rule }
+    ensures own { result.global ≡ false }
+{
+    Arg::new(alloc, "include")
+        .long("include")
+        .value_name("DIR")
+        .action(ArgAction::Append)
+        .help("Look for headers in this folder; it may be given several times")
+}
+
 // ---- commands
 
 /// A command with one more argument, if memory sufficed for both.
 #[inline(always)]
-#[tactic(auto, using(crate::proofs::Commands::with_last_argument))]
+#[tactic(auto, using(crate::proofs::BuiltCommands::with_last_argument))]
 fn with_argument<'a>(
     command: Result<Command<'a>, AllocError>,
     arg: Arg<'a>,
@@ -575,10 +587,10 @@ fn bare_draft<'a>(alloc: Global) -> Command<'a>
     Command::new(alloc, "draft")
         .about("Lists the functions and the tables of registrations that it can read in plain C")
         .override_usage(
-            "fltstack draft --functions [--define <NAME[=VALUE]>]... [--undef <NAME>]... <FILE>...",
+            "fltstack draft --functions [--define <NAME[=VALUE]>]... [--undef <NAME>]... [--include <DIR>]... <FILE>...",
         )
         .after_help(
-            "Prints a line for each function of the C files: `read`, or where and why reading stops; for each table of\nregistrations its rows; and for each place that is not read, why (exit 0 if all is read, else 1). If\nnothing decides the condition of an `#if`, all its branches are read. Errors go to the standard error with exit 2.\n\nExample: fltstack draft --functions examples/c/ctx.c",
+            "Prints a line for each function of the C files: `read`, or where and why reading stops; for each table of\nregistrations its rows; and for each place that is not read, why (exit 0 if all is read, else 1). If\nnothing decides the condition of an `#if`, all its branches are read. `#include \"NAME\"` is looked for beside the\nfile that includes it, then in each DIR in order; `#include <NAME>` in the DIRs alone. A header that isn't found\nchanges nothing. Errors go to the standard error with exit 2.\n\nExample: fltstack draft --functions examples/c/ctx.c",
         )
 }
 
@@ -588,6 +600,7 @@ fn draft_command<'a>(alloc: Global) -> Result<Command<'a>, AllocError>
     let command = with_argument(Ok(bare_draft(alloc)), functions_argument(alloc));
     let command = with_argument(command, define_argument(alloc));
     let command = with_argument(command, undef_argument(alloc));
+    let command = with_argument(command, include_argument(alloc));
     with_argument(
         command,
         texts_argument(alloc, "The C files; `-` is the standard input"),

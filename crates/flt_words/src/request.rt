@@ -169,6 +169,8 @@ pub enum Request<'a> {
         defined: Vec<&'a str>,
         /// The names that are no macros there.
         undefined: Vec<&'a str>,
+        /// The folders in which headers are looked for, in this order.
+        folders: Vec<&'a str>,
         files: Vec<&'a str>,
     },
 }

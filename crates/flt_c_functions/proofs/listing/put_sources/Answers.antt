@@ -1,18 +1,21 @@
-use Rattle.std.proofs.Common.{arith}
-use Rattle.flt_c_functions.proofs.Writing.{begun_all, begun_first, begun_next}
-use Rattle.flt_c_functions.specs.Listing.{IsSourceText}
+use Rattle.std.proofs.Common.{ap, ◌∙◌}
+use Rattle.flt_c_functions.proofs.Writing.{written_all, written_first, written_next}
+use Rattle.flt_c_functions.specs.Places.{told_behind}
 use Rattle.flt_c_functions.proofs.listing.put_sources.Goals as goal
 
-pub loop-source-init : goal.loop-source-init
-loop-source-init c = begun_first (IsSourceText c.args.spellings.now c.args.known.now) c.args.sources.now c.args.out.now.items
+pub loop-rest-init : goal.loop-rest-init
+loop-rest-init c =
+    written_first c.args.spellings.now c.args.headers.now.files c.args.known.now c.args.sources.now c.args.out.now.items c.new-told.result
+    c.new-told.ensures
 
-pub loop-source-preserved : goal.loop-source-preserved
-loop-source-preserved c =
-    begun_next (IsSourceText c.args.spellings.now c.args.known.now) c.args.sources.now c.loop-source.source-index c.source-item.result
-    c.args.out.now.items c.loop-source.out.items c.put_source.new.out.items c.loop-source.is_whole c.in_ok-is_read.is_read _
-    c.loop-source.invariant c.in_ok-is_read.ensures (omega arith) c.source-item.is c.are_both-is_whole.ensures
+pub loop-rest-preserved : goal.loop-rest-preserved
+loop-rest-preserved c =
+    written_next c.args.spellings.now c.args.headers.now.files c.args.known.now c.args.sources.now c.args.out.now.items c.loop-rest.rest.now
+    c.source-item.result c.loop-rest.told c.as_slice.result.now _ c.loop-rest.out.items c.put_source.new.out.items c.loop-rest.is_whole
+    c.in_ok-is_read.is_read _ c.loop-rest.invariant c.in-len1-up.len_at_least c.source-item.is c.as_slice.ensures c.in_ok-is_read.ensures
+    c.are_both-is_whole.ensures (c.in_ok-tell.ensures ∙ ap (told_behind c.loop-rest.told) c.as_slice-in-len1-up.ensures)
 
 pub returns : goal.returns
 returns c =
-    begun_all (IsSourceText c.args.spellings.now c.args.known.now) c.args.sources.now c.loop-source.source-index
-    c.args.out.now.items c.loop-source.out.items c.loop-source.is_whole c.loop-source.invariant (omega arith)
+    written_all c.args.spellings.now c.args.headers.now.files c.args.known.now c.args.sources.now c.args.out.now.items c.loop-rest.rest.now
+    c.loop-rest.told c.loop-rest.out.items c.loop-rest.is_whole c.loop-rest.invariant c.in_default.len_below

@@ -234,7 +234,7 @@ returns-in-Compare-clause-answers g c =
 pub returns-in-Functions-clause-answers : goal.returns-in-Functions-clause-answers
 returns-in-Functions-clause-answers g c =
     let request = Functions (map (λ text. text.now) c.in-Functions.defined.items) (map (λ name. name.now) c.in-Functions.undefined.items)
-    (map (λ name. name.now) c.in-Functions.files.items) in
+    (map (λ name. name.now) c.in-Functions.folders.items) (map (λ name. name.now) c.in-Functions.files.items) in
     let does =
     Does (c.args.pictures.now ≡ c.args.pictures.now) (g.P.Pictures.done c.args.pictures.now)
     (g.P.Pictures.done c.args.pictures.now) in
@@ -243,8 +243,12 @@ returns-in-Functions-clause-answers g c =
     (ap asked_of (sym c.in-Functions.is)) (
       c.list_functions-said.result,
       c.of_text-in-Functions.ensures,
-      rw (c.as_slice-in-Functions.ensures.value, c.as_slice-in-Functions-2.ensures.value, c.as_slice-in-Functions-3.ensures.value)
-          at c.list_functions-said.ensures,
+      rw (
+        c.as_slice-in-Functions.ensures.value,
+        c.as_slice-in-Functions-2.ensures.value,
+        c.as_slice-in-Functions-3.ensures.value,
+        c.as_slice-in-Functions-4.ensures.value,
+      ) at c.list_functions-said.ensures,
     )
     refl
     (those_of _ _ c.report_on-in-Functions.ensures.texts) c.report_on-in-Functions.ensures.codes c.report_on-in-Functions.ensures.reported

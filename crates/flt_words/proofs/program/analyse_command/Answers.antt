@@ -1,4 +1,4 @@
-use Rattle.flt_words.proofs.Commands.{with_last_argument, with_texts}
+use Rattle.flt_words.proofs.BuiltCommands.{with_last_argument, with_texts}
 use Rattle.flt_words.proofs.program.analyse_command.Goals as goal
 
 pub returns : goal.returns

@@ -1,4 +1,4 @@
-use Rattle.flt_words.proofs.Commands.{with_about, with_after_help, with_no_binary_name, with_subcommand_required, with_version}
+use Rattle.flt_words.proofs.BuiltCommands.{with_about, with_after_help, with_no_binary_name, with_subcommand_required, with_version}
 use Rattle.flt_words.proofs.program.bare_program.Goals as goal
 
 pub returns : goal.returns

@@ -1,4 +1,4 @@
-use Rattle.flt_words.proofs.Commands.{with_texts}
+use Rattle.flt_words.proofs.BuiltCommands.{with_texts}
 use Rattle.flt_words.proofs.program.bare_replay.Goals as goal
 
 pub returns : goal.returns
