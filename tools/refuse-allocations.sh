@@ -220,7 +220,7 @@ runs=(
     "explain --strict warnings/w02_inserted_under_a_lock.flt warnings/w04_changed_without_the_lock.flt"
     "explain --form lines warnings/w05_goes_on_with_its_own.flt warnings/w06_never_queued.flt"
     "compare c/ctx_drifted.c c/ctx.c"
-    "draft --functions --define NULL=0 --undef FlagOn c/drivers/scanner.c c/ctx.c"
+    "draft --functions --define NULL=0 --undef FlagOn --include c/drivers c/drivers/scanner.c c/ctx.c"
     "emit pending_reads.flt"
     "emit --part user pending_reads.flt pending_reads.cert"
     "emit --part inf deny_writes.flt"
